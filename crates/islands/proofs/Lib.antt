@@ -1,0 +1,4 @@
+pub mod Islands
+pub mod UpperLimits
+pub mod Listed
+pub mod SeenIslands

@@ -1,0 +1,40 @@
+-- `signs_of_five`: what `see` ensures of each island, put together.
+-- Assumes nothing.
+use Rattle.islands.proofs.SeenIslands.{signs-of-seen}
+use mathlib.Core.Bool.{or-false}
+use Rattle.islands.specs.Ageing.{late}
+use Rattle.islands.specs.Fresh.{someFresh, present, freshNear, freshAdvance, someHeld}
+use Rattle.islands.specs.Signs.{signsOf}
+use borrow.Author.Needs.{needs}
+use Rattle.islands.proofs.shown.signs_of_five.Statement.{statement}
+use Rattle.islands.proofs.shown.signs_of_five.Tie as tie
+
+see-requires : tie.Need-see-requires
+see-requires c κs = search needs
+
+see-requires-2 : tie.Need-see-requires-2
+see-requires-2 c κs = search needs
+
+see-requires-3 : tie.Need-see-requires-3
+see-requires-3 c κs = search needs
+
+see-requires-4 : tie.Need-see-requires-4
+see-requires-4 c κs = search needs
+
+see-requires-5 : tie.Need-see-requires-5
+see-requires-5 c κs = search needs
+
+returns : tie.Need-returns
+returns c = let k = c .before .before .before .before .before .before .before .before .before .before .before .before .before .before .before .before .before .before .before .before .before .before .before .before .before .before in
+    let a = k .before .before .before .before .before .args in
+    signs-of-seen (a .c) (a .i0) (a .i1) (a .i2) (a .i3) (a .i4) _ _ _ _ _
+    (k .before .before .before .before .see .ensures)
+    (k .before .before .before .see2 .ensures)
+    (k .before .before .see3 .ensures)
+    (k .before .see4 .ensures)
+    (k .see5 .ensures)
+
+pub signs-of-five-spec : {M : Type 1} → statement M
+signs-of-five-spec =
+    tie.close
+    (tie.spec see-requires see-requires-2 see-requires-3 see-requires-4 see-requires-5 returns)

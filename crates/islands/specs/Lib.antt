@@ -1,0 +1,6 @@
+pub mod Ageing
+pub mod Fresh
+pub mod Islands
+pub mod Lists
+pub mod Mark
+pub mod Signs

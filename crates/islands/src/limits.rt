@@ -1,0 +1,17 @@
+// Document 01, "What the station is": the settings' limits.
+ghost use mathlib.Core.Path.{_≡_};
+ghost use Rattle.islands.specs.Islands.{withinLimits};
+use crate::Settings;
+
+// Whether every setting is within its limits. No u16 is above 65,535.
+pub fn within_limits(settings: Settings) -> bool
+    ensures { λ r. ⌜ r ≡ withinLimits settings ⌝ }
+{
+    (1 <= settings.tracks)
+        & (settings.tracks <= 4)
+        & (1 <= settings.t1)
+        & (1 <= settings.t2)
+        & (1 <= settings.t3)
+        & (1 <= settings.t5)
+        & (settings.t2 < settings.t5)
+}
