@@ -1,4 +1,6 @@
+pub mod Below
 pub mod Islands
 pub mod UpperLimits
 pub mod Listed
 pub mod SeenIslands
+pub mod Turned

@@ -1,7 +1,8 @@
 -- A list of a known length is its elements, one after the other: one law for tracks of five islands, stations of four tracks and pairs of
 -- heads.
 -- Assumes nothing.
-use Prim.Native.Nat.{ℕ, zero, suc}
+use Prim.Native.Nat.{ℕ, zero, suc, _<_}
+use native.Mathlib.Nat.{not-suc-le-zero, le-of-suc-le-suc}
 use mathlib.Core.Path.{_≡_, refl, sym, ap, _∙_}
 use mathlib.Core.List.{List, [], _∷_, map}
 use lib.ListN.{length, getD, length-map}
@@ -22,3 +23,9 @@ module _ {A : Type 0} where
 -- An array's relation speaks of the mapped list: its length is the list's.
 pub counted : {A B : Type 0} (f : A → B) (l : List A) (n : ℕ) → length (map f l) ≡ n → length l ≡ n
 counted f l n e = sym (length-map l f) ∙ e
+
+-- What stands within a list does not depend on what would be taken past its end.
+pub getD-same : {A : Type 0} (l : List A) (k : ℕ) (d e : A) → k < length l → getD l k d ≡ getD l k e
+getD-same [] k d e h = absurd (not-suc-le-zero h)
+getD-same (x ∷ xs) zero d e h = refl
+getD-same (x ∷ xs) (suc k) d e h = getD-same xs k d e (le-of-suc-le-suc h)

@@ -3,9 +3,8 @@
 use mathlib.Core.Path.{_≡_, refl, sym, ap}
 use mathlib.Core.Bool.{Bool, true, false, _&&_, _||_, or-false}
 use mathlib.Core.List.{[], _∷_}
-use lib.Dec.{leb}
 use Rattle.islands.proofs.Islands.{any-island}
-use Rattle.islands.specs.Ageing.{late, isWarning}
+use Rattle.islands.specs.Ageing.{isWarning}
 use Rattle.islands.specs.Fresh.{held, freshApproaching, isAdvance, someFresh, present, freshNear, freshAdvance, someHeld}
 use Rattle.islands.specs.Islands.{warning, crossing, approaching, goingAway}
 use Rattle.islands.specs.Signs.{seenOf, signsOf}
@@ -26,20 +25,18 @@ pub signs-of-seen : (c : Settings) (i0 i1 i2 i3 i4 : Island) (s0 s1 s2 s3 s4 : S
     record {
       fresh = s0 .fresh || (s1 .fresh || (s2 .fresh || (s3 .fresh || s4 .fresh)));
       present = s0 .present || (s1 .present || (s2 .present || (s3 .present || s4 .present)));
-      late = i1 .occupied && leb (c .t5) (i1 .age) || i3 .occupied && leb (c .t5) (i3 .age);
       near = s1 .fresh || (s2 .fresh || s3 .fresh);
       ahead = s0 .fresh || s4 .fresh;
       held = s0 .held || (s1 .held || (s2 .held || (s3 .held || s4 .held)));
     }
     (signsOf c (record { islands = i0 ∷ i1 ∷ i2 ∷ i3 ∷ i4 ∷ [] }))
-unfolding signsOf late someFresh present freshNear freshAdvance someHeld
+unfolding signsOf someFresh present freshNear freshAdvance someHeld
 signs-of-seen c i0 i1 i2 i3 i4 s0 s1 s2 s3 s4 e0 e1 e2 e3 e4 =
     rw (e0, e1, e2, e3, e4)
     (λ k.
     record {
       fresh = any-island (freshApproaching c) t refl k;
       present = any-island (λ z i. approaching i || held c z i || isWarning z && goingAway i) t refl k;
-      late = (ap (λ (b : Bool). i1 .occupied && leb (c .t5) (i1 .age) || b) (sym (or-false (i3 .occupied && leb (c .t5) (i3 .age))))) k;
       near = (ap (λ (b : Bool). freshApproaching c warning i1 || (freshApproaching c crossing i2 || b)) (sym (or-false (freshApproaching c warning i3)))) k;
       ahead = any-island (λ z i. isAdvance z && freshApproaching c z i) t refl k;
       held = any-island (held c) t refl k;

@@ -5,7 +5,7 @@ use mathlib.Core.List.{List, [], _∷_}
 use lib.Dec.{ltb}
 use lib.ListN.{getD, replicate}
 use Rattle.answers.specs.Limits.{within}
-use Rattle.islands.specs.Lists.{anyWith}
+use Rattle.islands.specs.Lists.{any, anyWith}
 use Rattle.islands.specs.declared.Island.{Island}
 use Rattle.islands.specs.declared.Settings.{Settings}
 use Rattle.islands.specs.declared.Track.{Track}
@@ -39,10 +39,10 @@ abbrev pub anyIsland : (Zone → Island → Bool) → Track → Bool
 anyIsland p t = anyWith p zones (t .islands)
 
 unfoldable pub someOccupied : Track → Bool
-someOccupied t = anyIsland (λ z i. i .occupied) t
+someOccupied t = any (λ i. i .occupied) (t .islands)
 
 unfoldable pub someFailed : Track → Bool
-someFailed t = anyIsland (λ z i. i .failed) t
+someFailed t = any (λ i. i .failed) (t .islands)
 
 -- Settings: the number of tracks (1 to 4: four is a house limit); T1, T2, T3 from 1 to 65535; T4 from 0 to 65535; T5 from 1 to 65535 and
 -- greater than T2.

@@ -4,3 +4,4 @@ pub mod Islands
 pub mod Lists
 pub mod Mark
 pub mod Signs
+pub mod Turns

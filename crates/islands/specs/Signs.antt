@@ -1,8 +1,7 @@
--- What document 01, "From islands to aspect" and "Reports", asks of one track, side by side.
+-- What document 01, "From islands to aspect", asks of one track, side by side.
 use Prim.Native.Nat.{ℕ}
 use mathlib.Core.Bool.{Bool, not, _&&_, _||_}
 use lib.Dec.{leb}
-use Rattle.islands.specs.Ageing.{late}
 use Rattle.islands.specs.Fresh.{someFresh, present, freshNear, freshAdvance, someHeld}
 use Rattle.islands.specs.Islands.{approaching, goingAway}
 use Rattle.islands.specs.declared.Island.{Island}
@@ -16,7 +15,6 @@ signsOf c t =
     record {
       fresh = someFresh c t;
       present = present c t;
-      late = late c t;
       near = freshNear c t;
       ahead = freshAdvance c t;
       held = someHeld c t;

@@ -1,34 +1,38 @@
-// Document 01, "Reports": what a single tick does to islands.
+// Document 01, "Reports": what single ticks do to islands.
 ghost use mathlib.Core.Path.{_≡_};
-ghost use Rattle.islands.specs.Ageing.{older as Ageing·older, olderTrack};
+ghost use Prim.Native.Nat.{_+_, min};
+ghost use Rattle.islands.specs.Turns.{later as Turns·later, laterTrack};
 use crate::Island;
 use crate::Track;
 
-// Every island of the track, one tick older where it is occupied.
-pub fn older_track(track: Track) -> Track
-    ensures { λ r. ⌜ r ≡ olderTrack track ⌝ }
+// The track n single ticks later: every occupied island's age has grown by n, stopping at 65,535.
+pub fn later_track(track: Track, n: u16) -> Track
+    ensures { λ r. ⌜ r ≡ laterTrack n track ⌝ }
 {
     let islands = track.islands;
     Track {
         islands: [
-            older(islands[0]),
-            older(islands[1]),
-            older(islands[2]),
-            older(islands[3]),
-            older(islands[4]),
+            later(islands[0], n),
+            later(islands[1], n),
+            later(islands[2], n),
+            later(islands[3], n),
+            later(islands[4], n),
         ],
     }
 }
 
-fn older(island: Island) -> Island
-    ensures { λ r. ⌜ r ≡ Ageing·older island ⌝ }
+fn later(island: Island, n: u16) -> Island
+    ensures { λ r. ⌜ r ≡ Turns·later n island ⌝ }
 {
-    let grows = island.occupied & (island.age < 65535);
-    let age = if grows { island.age + 1 } else { island.age };
-    Island {
-        occupied: island.occupied,
-        leaving: island.leaving,
-        failed: island.failed,
-        age,
+    let mut next = island;
+    if island.occupied {
+        next.age = grown(island.age, n);
     }
+    next
+}
+
+fn grown(age: u16, n: u16) -> u16
+    ensures { λ r. ⌜ r ≡ min 65535 (age + n) ⌝ }
+{
+    if n < 65535 - age { age + n } else { 65535 }
 }

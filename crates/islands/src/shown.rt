@@ -41,7 +41,6 @@ fn signs_of_five(c: Settings, i0: Island, i1: Island, i2: Island, i3: Island, i4
     Signs {
         fresh: s0.fresh | (s1.fresh | (s2.fresh | (s3.fresh | s4.fresh))),
         present: s0.present | (s1.present | (s2.present | (s3.present | s4.present))),
-        late: (i1.occupied & (c.t5 <= i1.age)) | (i3.occupied & (c.t5 <= i3.age)),
         near: s1.fresh | (s2.fresh | s3.fresh),
         ahead: s0.fresh | s4.fresh,
         held: s0.held | (s1.held | (s2.held | (s3.held | s4.held))),

@@ -1,10 +1,10 @@
 -- `signs_of`: a track of five islands is its islands.
 -- Assumes nothing.
 use Rattle.islands.proofs.Listed.{counted}
-use mathlib.Core.Path.{_≡_, _∙_, ap, sym}
+use mathlib.Core.Path.{_≡_}
 use Rattle.islands.specs.Signs.{signsOf}
 use lib.ListN.{length}
-use Rattle.islands.proofs.Islands.{is-five}
+use Rattle.islands.proofs.Islands.{whole}
 use borrow.Author.Needs.{needs}
 use Rattle.islands.proofs.shown.signs_of.Statement.{statement}
 use Rattle.islands.proofs.shown.signs_of.Tie as tie
@@ -30,7 +30,7 @@ signs-of-five-requires c κs = search needs
 returns : tie.Need-returns
 returns c = let a = c .before .before .before .before .before .before .before .args in
     let len : length (a .track .islands) ≡ 5 = search (needs, counted) in
-    c .signs-of-five .ensures ∙ ap (signsOf (a .settings)) (sym (is-five (a .track) len))
+    whole (signsOf (a .settings)) (a .track) len (c .signs-of-five .ensures)
 
 pub signs-of-spec : {M : Type 1} → statement M
 signs-of-spec =

@@ -25,7 +25,7 @@ see-requires-5 : tie.Need-see-requires-5
 see-requires-5 c κs = search needs
 
 returns : tie.Need-returns
-returns c = let k = c .before .before .before .before .before .before .before .before .before .before .before .before .before .before .before .before .before .before .before .before .before .before .before .before .before .before in
+returns c = let k = c .before .before .before .before .before .before .before .before .before .before .before .before .before .before .before .before .before .before .before .before in
     let a = k .before .before .before .before .before .args in
     signs-of-seen (a .c) (a .i0) (a .i1) (a .i2) (a .i3) (a .i4) _ _ _ _ _
     (k .before .before .before .before .see .ensures)

@@ -5,7 +5,7 @@ use Rattle.islands.specs.declared.Island.{Island}
 use mathlib.Core.Path.{_≡_}
 use lib.ListN.{length}
 use Rattle.islands.specs.Islands.{someFailed}
-use Rattle.islands.proofs.Islands.{any-island}
+use Rattle.islands.proofs.Islands.{any-of-five}
 use borrow.Author.Needs.{needs}
 use Rattle.islands.proofs.shown.some_failed.Statement.{statement}
 use Rattle.islands.proofs.shown.some_failed.Tie as tie
@@ -27,7 +27,7 @@ element-copy-out-result-5 c = search needs
 
 returns : tie.Need-returns
 unfolding someFailed
-returns c = let t = c .before .args .track in let len : length (t .islands) ≡ 5 = search (needs, counted) in any-island (λ z (i : Island). i .failed) t len
+returns c = let t = c .before .args .track in let len : length (t .islands) ≡ 5 = search (needs, counted) in any-of-five (λ (i : Island). i .failed) t len
 
 pub some-failed-spec : {M : Type 1} → statement M
 some-failed-spec =

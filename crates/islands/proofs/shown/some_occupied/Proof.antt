@@ -5,7 +5,7 @@ use Rattle.islands.specs.declared.Island.{Island}
 use mathlib.Core.Path.{_≡_}
 use lib.ListN.{length}
 use Rattle.islands.specs.Islands.{someOccupied}
-use Rattle.islands.proofs.Islands.{any-island}
+use Rattle.islands.proofs.Islands.{any-of-five}
 use borrow.Author.Needs.{needs}
 use Rattle.islands.proofs.shown.some_occupied.Statement.{statement}
 use Rattle.islands.proofs.shown.some_occupied.Tie as tie
@@ -27,7 +27,7 @@ element-copy-out-result-5 c = search needs
 
 returns : tie.Need-returns
 unfolding someOccupied
-returns c = let t = c .before .args .track in let len : length (t .islands) ≡ 5 = search (needs, counted) in any-island (λ z (i : Island). i .occupied) t len
+returns c = let t = c .before .args .track in let len : length (t .islands) ≡ 5 = search (needs, counted) in any-of-five (λ (i : Island). i .occupied) t len
 
 pub some-occupied-spec : {M : Type 1} → statement M
 some-occupied-spec =

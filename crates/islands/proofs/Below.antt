@@ -1,0 +1,118 @@
+-- Laws of "any" and "how many" over the first j elements of a list: what a loop that goes through them needs.
+-- Assumes nothing.
+use Prim.Native.Nat.{ℕ, zero, suc, _+_, _≤_, _<_, min, zero-le}
+use native.Mathlib.Nat.{zero-add, suc-add}
+use native.Mathlib.Decide.{decLe}
+use native.Mathlib.Numerals.{add-one}
+use native.Mathlib.Omega.{arith}
+use mathlib.Core.Path.{_≡_, refl, sym, ap, ap₂, _∙_}
+use mathlib.Core.Bool.{Bool, true, false, cond, _||_, or-false, or-assoc}
+use mathlib.Core.List.{List, [], _∷_, _++_, map, map-append, append-assoc}
+use lib.ListN.{length, getD, take, drop, set, length-append, length-map, length-take, take-append-drop, drop-of-length-le}
+use lib.Seq.{take-suc, take-all, drop-cons, set-at, length-take-le, append-snoc, getD-at, take-at}
+use Rattle.islands.specs.Lists.{any, count}
+
+one-more : (b : Bool) (m n k : ℕ) → m ≡ n + k → cond b (suc m) m ≡ cond b (suc n) n + k
+one-more true m n k e = omega arith
+one-more false m n k e = e
+
+no-more : (b : Bool) (m n : ℕ) → m ≤ n → cond b (suc m) m ≤ suc n
+no-more true m n h = omega arith
+no-more false m n h = omega arith
+
+module _ {A : Type 0} (p : A → Bool) where
+  pub any-append : (xs ys : List A) → any p (xs ++ ys) ≡ any p xs || any p ys
+  any-append [] ys = refl
+  any-append (x ∷ xs) ys = ap (λ (b : Bool). p x || b) (any-append xs ys) ∙ sym (or-assoc (p x) (any p xs) (any p ys))
+
+  pub count-append : (xs ys : List A) → count p (xs ++ ys) ≡ count p xs + count p ys
+  count-append [] ys = sym (zero-add (count p ys))
+  count-append (x ∷ xs) ys = one-more (p x) (count p (xs ++ ys)) (count p xs) (count p ys) (count-append xs ys)
+
+  -- one element more
+  pub any-more : (l : List A) (j : ℕ) (d : A) → j < length l → any p (take (j + 1) l) ≡ any p (take j l) || p (getD l j d)
+  any-more l j d h = rw (add-one, take-suc l j d h) (any-append (take j l) (getD l j d ∷ []) ∙ ap (λ (b : Bool). any p (take j l) || b) (or-false (p (getD l j d))))
+
+  pub count-more : (l : List A) (j : ℕ) (d : A) → j < length l → count p (take (j + 1) l) ≡ count p (take j l) + cond (p (getD l j d)) 1 0
+  count-more l j d h = rw (add-one, take-suc l j d h) (count-append (take j l) (getD l j d ∷ []))
+
+  count-length : (l : List A) → count p l ≤ length l
+  count-length [] = zero-le
+  count-length (x ∷ xs) = no-more (p x) (count p xs) (length xs) (count-length xs)
+
+  pub count-below : (l : List A) (j : ℕ) → count p (take j l) ≤ j
+  count-below l j = omega (arith, count-length (take j l), length-take j l)
+
+module _ {A : Type 0} where
+  -- A number above the length names no more elements than there are.
+  pub take-least : (l : List A) (n m : ℕ) → length l ≡ m → take (min n m) l ≡ take n l
+  take-least l n m e = go (decLe m n)
+    where
+      go : Dec (m ≤ n) → take (min n m) l ≡ take n l
+      go (yes h) = take-all (min n m) l (omega arith) ∙ sym (take-all n l (omega arith))
+      go (no h) = let fewer : min n m ≡ n = omega arith in ap (λ (k : ℕ). take k l) fewer
+
+  pub drop-least : (l : List A) (n m : ℕ) → length l ≡ m → drop (min n m) l ≡ drop n l
+  drop-least l n m e = go (decLe m n)
+    where
+      go : Dec (m ≤ n) → drop (min n m) l ≡ drop n l
+      go (yes h) =
+          let least : length l ≤ min n m = omega arith in
+          let all : length l ≤ n = omega arith in
+          drop-of-length-le l least ∙ sym (drop-of-length-le l all)
+      go (no h) = let fewer : min n m ≡ n = omega arith in ap (λ (k : ℕ). drop k l) fewer
+
+module _ {A B : Type 0} (f : A → B) where
+  pub any-map : (p : B → Bool) (l : List A) → any p (map f l) ≡ any (λ x. p (f x)) l
+  any-map p [] = refl
+  any-map p (x ∷ xs) = ap (λ (b : Bool). p (f x) || b) (any-map p xs)
+
+  pub count-map : (p : B → Bool) (l : List A) → count p (map f l) ≡ count (λ x. p (f x)) l
+  count-map p [] = refl
+  count-map p (x ∷ xs) = ap (λ (n : ℕ). cond (p (f x)) (suc n) n) (count-map p xs)
+
+-- A list whose first j elements have been changed, one after the other and in place.
+module _ {A : Type 0} (f : A → A) where
+  abbrev pub changed : ℕ → List A → List A
+  changed j l = map f (take j l) ++ drop j l
+
+  -- where the change has come to
+  seam : (l : List A) (j : ℕ) → j < length l → length (map f (take j l)) ≡ j
+  seam l j h = length-map (take j l) f ∙ length-take-le j l (omega arith)
+
+  pub changed-length : (j : ℕ) (l : List A) → length (changed j l) ≡ length l
+  changed-length j l =
+      length-append (map f (take j l)) (drop j l)
+      ∙ ap (λ (n : ℕ). n + length (drop j l)) (length-map (take j l) f)
+      ∙ sym (length-append (take j l) (drop j l))
+      ∙ ap length (take-append-drop j l)
+
+  pub changed-at : (j : ℕ) (l : List A) (d : A) → j < length l → getD (changed j l) j d ≡ getD l j d
+  changed-at j l d h = rw (drop-cons l j d h) (getD-at (map f (take j l)) (getD l j d) (drop (suc j) l) d j (seam l j h))
+
+  grown : (j : ℕ) (l : List A) (d : A) → j < length l → changed (j + 1) l ≡ map f (take j l) ++ f (getD l j d) ∷ drop (suc j) l
+  grown j l d h = rw (add-one, take-suc l j d h, map-append, append-assoc)
+
+  pub changed-more : (j : ℕ) (l : List A) (d : A) → j < length l → set (changed j l) j (f (getD l j d)) ≡ changed (j + 1) l
+  changed-more j l d h =
+      ap (λ (m : List A). set (map f (take j l) ++ m) j (f (getD l j d))) (drop-cons l j d h)
+      ∙ set-at (map f (take j l)) (getD l j d) (drop (suc j) l) (f (getD l j d)) j (seam l j h)
+      ∙ sym (grown j l d h)
+
+  -- a store of what the change makes of the element that stands there
+  pub changed-next : (j : ℕ) (l m : List A) (d x : A) → j < length l → m ≡ changed j l → x ≡ f (getD m j d) → set m j x ≡ changed (j + 1) l
+  changed-next j l m d x h e g =
+      ap₂ (λ (k : List A) (y : A). set k j y) e (g ∙ ap (λ (k : List A). f (getD k j d)) e ∙ ap f (changed-at j l d h)) ∙ changed-more j l d h
+
+  pub changed-take : (j : ℕ) (l : List A) → take j (changed j l) ≡ map f (take j l)
+  changed-take zero l = refl
+  changed-take (suc j) [] = refl
+  changed-take (suc j) (x ∷ xs) = ap (λ (ys : List A). f x ∷ ys) (changed-take j xs)
+
+  pub changed-drop : (j : ℕ) (l : List A) → drop j (changed j l) ≡ drop j l
+  changed-drop zero l = refl
+  changed-drop (suc j) [] = refl
+  changed-drop (suc j) (x ∷ xs) = changed-drop j xs
+
+  pub changed-least : (l : List A) (n m : ℕ) → length l ≡ m → changed (min n m) l ≡ changed n l
+  changed-least l n m e = ap₂ (λ (a b : List A). map f a ++ b) (take-least l n m e) (drop-least l n m e)

@@ -1,0 +1,4 @@
+pub mod Digits
+pub mod Paper
+pub mod Shown
+pub mod Table

@@ -1,0 +1,4 @@
+pub mod ShownLaws
+pub mod Stations
+pub mod Surveys
+pub mod Timing

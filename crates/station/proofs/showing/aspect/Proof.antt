@@ -1,0 +1,36 @@
+-- `aspect`: both tests that put the station out of service are one; otherwise the lines, over what `look_over` saw.
+-- Assumes nothing.
+use borrow.Author.Needs.{needs}
+use Rattle.station.proofs.ShownLaws.{out-of-service, in-service}
+use Rattle.station.proofs.showing.aspect.Statement.{statement}
+use Rattle.station.proofs.showing.aspect.Tie as tie
+
+within-limits-requires : tie.Need-within-limits-requires
+within-limits-requires c κs = search needs
+
+returns : tie.Need-returns
+returns c = out-of-service _ _ (c .before .before .within-limits .ensures) (c .if1 .taken)
+
+look-over-requires : tie.Need-look-over-requires
+look-over-requires c κs = search needs
+
+risk-in-requires : tie.Need-risk-in-requires
+risk-in-requires c κs = search needs
+
+lines-requires : tie.Need-lines-requires
+lines-requires c κs = search needs
+
+returns-2 : tie.Need-returns-2
+returns-2 c = let k = c .before .before .before .before in
+    in-service _ _ (k .before .before .before .within-limits .ensures) _ _ _ (k .before .if1 .left) (c .before .before .before .look-over .ensures) (c .before .before .risk-in .ensures) (c .lines .ensures)
+
+pub aspect-spec : {M : Type 1} → statement M
+aspect-spec =
+    tie.close
+    (tie.spec
+    within-limits-requires
+    returns
+    look-over-requires
+    risk-in-requires
+    lines-requires
+    returns-2)

@@ -1,0 +1,84 @@
+-- `later_tracks`: after j tracks the first j are later, in place.
+-- Assumes nothing.
+use mathlib.Core.List.{[]}
+use lib.ListN.{length-set}
+use Prim.Native.Nat.{ℕ, _≤_, _-_, min}
+use mathlib.Core.Path.{_≡_, refl, ap, _∙_}
+use lib.ListN.{length}
+use borrow.Author.Needs.{needs}
+use native.Mathlib.Omega.{arith}
+use Rattle.islands.proofs.Listed.{counted}
+use Rattle.islands.proofs.Below.{changed, changed-least, changed-next}
+use Rattle.islands.specs.Turns.{laterTrack}
+use Rattle.station.proofs.ticking.later_tracks.Statement.{statement}
+use Rattle.station.proofs.ticking.later_tracks.Tie as tie
+
+abbrev Inv-loop : tie.InvT-loop
+Inv-loop n live later₀ j₀ later j = (j ≤ live) × ((length later ≡ 4) × (later ≡ changed (laterTrack n) j later₀))
+
+abbrev μ-loop : tie.MeasureT-loop
+μ-loop n live later₀ j₀ later j = live - j
+
+live-tracks-requires : tie.Need-live-tracks-requires Inv-loop μ-loop
+live-tracks-requires c κs = search needs
+
+loop-holds : tie.Need-loop-holds Inv-loop μ-loop
+loop-holds c = (search needs, (search (needs, counted), refl))
+
+mul-track : tie.Need-mul-track Inv-loop μ-loop
+mul-track c = search needs
+
+array-copy-out-track : tie.Need-array-copy-out-track Inv-loop μ-loop
+array-copy-out-track c = search needs
+
+later-track-requires : tie.Need-later-track-requires Inv-loop μ-loop
+later-track-requires c κs = search needs
+
+mul-later : tie.Need-mul-later Inv-loop μ-loop
+mul-later c = search needs
+
+array-set-from-later : tie.Need-array-set-from-later Inv-loop μ-loop
+array-set-from-later c = search needs
+
+add-j : tie.Need-add-j Inv-loop μ-loop
+add-j c = search needs
+
+loop-less : tie.Need-loop-less Inv-loop μ-loop
+loop-less c = search needs
+
+loop-again : tie.Need-loop-again Inv-loop μ-loop
+loop-again c = let k = c .before .before .before in
+    let a = k .before .before .args in
+    let len : length (a .tracks) ≡ 4 = search (needs, counted) in (
+      search needs,
+      (
+        length-set (k .loop .later) (k .loop .j) (c .later-track .result) ∙ k .loop .inv .1 .0,
+        changed-next (laterTrack (a .n)) (k .loop .j) (a .tracks) (k .loop .later) (record { islands = [] }) (c .later-track .result) (omega arith) (k .loop .inv .1 .1) (c .later-track .ensures),
+      ),
+    )
+
+returns : tie.Need-returns Inv-loop μ-loop
+returns c = let a = c .before .before .before .args in
+    let len : length (a .tracks) ≡ 4 = search (needs, counted) in
+    let end : c .before .loop .j ≡ min (a .settings .tracks) 4 = omega arith in
+    c .before .loop .inv .1 .1
+    ∙ ap (λ (m : ℕ). changed (laterTrack (a .n)) m (a .tracks)) end
+    ∙ changed-least (laterTrack (a .n)) (a .tracks) (a .settings .tracks) 4 len
+
+pub later-tracks-spec : {M : Type 1} → statement M
+later-tracks-spec =
+    tie.close
+    (tie.spec
+    Inv-loop
+    μ-loop
+    live-tracks-requires
+    loop-holds
+    mul-track
+    array-copy-out-track
+    later-track-requires
+    mul-later
+    array-set-from-later
+    add-j
+    loop-less
+    loop-again
+    returns)

@@ -1,0 +1,84 @@
+-- `timetable_of`: after j tracks the timetable is that of the first j.
+-- Assumes nothing.
+use mathlib.Core.List.{List, []}
+use Rattle.islands.specs.declared.Track.{Track}
+use Rattle.islands.proofs.Below.{take-least}
+use Rattle.islands.proofs.Turned.{timers}
+use Prim.Native.Nat.{ℕ, _≤_, _-_, min}
+use mathlib.Core.Path.{_≡_, subst, ap, _∙_}
+use lib.ListN.{length, take}
+use borrow.Author.Needs.{needs}
+use native.Mathlib.Omega.{arith}
+use Rattle.islands.proofs.Listed.{counted}
+use Rattle.station.specs.Timetable.{Timed}
+use Rattle.station.proofs.Timing.{timed-none, timed-next}
+use Rattle.station.proofs.ticking.timetable_of.Statement.{statement}
+use Rattle.station.proofs.ticking.timetable_of.Tie as tie
+
+abbrev Inv-loop : tie.InvT-loop
+Inv-loop settings tracks live table₀ j₀ table j = (j ≤ live) × Timed settings (take j tracks) table
+
+abbrev μ-loop : tie.MeasureT-loop
+μ-loop settings tracks live table₀ j₀ table j = live - j
+
+live-tracks-requires : tie.Need-live-tracks-requires Inv-loop μ-loop
+live-tracks-requires c κs = search needs
+
+loop-holds : tie.Need-loop-holds Inv-loop μ-loop
+loop-holds c = (search needs, timed-none (c .before .args .settings))
+
+mul-turns-of : tie.Need-mul-turns-of Inv-loop μ-loop
+mul-turns-of c = search (needs, counted)
+
+array-copy-out-turns-of : tie.Need-array-copy-out-turns-of Inv-loop μ-loop
+array-copy-out-turns-of c = search (needs, counted)
+
+turns-of-requires : tie.Need-turns-of-requires Inv-loop μ-loop
+turns-of-requires c κs = search needs
+
+with-turns-requires : tie.Need-with-turns-requires Inv-loop μ-loop
+with-turns-requires c κs = search needs
+
+add-j : tie.Need-add-j Inv-loop μ-loop
+add-j c = search needs
+
+loop-less : tie.Need-loop-less Inv-loop μ-loop
+loop-less c = search needs
+
+loop-again : tie.Need-loop-again Inv-loop μ-loop
+loop-again c = let a = c .before .before .before .before .before .before .args in
+    let len : length (a .t2) ≡ 4 = search (needs, counted) in (
+      search needs,
+      timed-next (a .settings) (a .t2) (c .before .before .before .before .loop .j) (record { islands = [] }) _ _ _
+          (timers (a .settings) (search needs) (search needs) (search needs))
+          (search needs)
+          (omega arith)
+          (c .before .before .before .before .loop .inv .1)
+          (c .before .turns-of .ensures)
+          (c .with-turns .ensures),
+    )
+
+returns : tie.Need-returns Inv-loop μ-loop
+returns c = let a = c .before .before .before .args in
+    let len : length (a .t2) ≡ 4 = search (needs, counted) in
+    let end : c .before .loop .j ≡ min (a .settings .tracks) 4 = omega arith in
+    subst (λ (l : List Track). Timed (a .settings) l (c .before .loop .table))
+    (ap (λ (n : ℕ). take n (a .t2)) end ∙ take-least (a .t2) (a .settings .tracks) 4 len)
+    (c .before .loop .inv .1)
+
+pub timetable-of-spec : {M : Type 1} → statement M
+timetable-of-spec =
+    tie.close
+    (tie.spec
+    Inv-loop
+    μ-loop
+    live-tracks-requires
+    loop-holds
+    mul-turns-of
+    array-copy-out-turns-of
+    turns-of-requires
+    with-turns-requires
+    add-j
+    loop-less
+    loop-again
+    returns)

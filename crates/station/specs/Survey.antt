@@ -1,0 +1,23 @@
+-- What document 01, "From islands to aspect", asks of a station's tracks, side by side.
+use mathlib.Core.Bool.{Bool, _&&_}
+use mathlib.Core.List.{List}
+use lib.Dec.{leb}
+use Rattle.islands.specs.Fresh.{someFresh, present, freshNear, freshAdvance, someHeld}
+use Rattle.islands.specs.Lists.{any, count}
+use Rattle.islands.specs.declared.Settings.{Settings}
+use Rattle.islands.specs.declared.Track.{Track}
+use Rattle.station.specs.declared.surveying.Survey.{Survey}
+
+unfoldable pub surveyOf : Settings → List Track → Survey
+surveyOf c l =
+    record {
+      fresh = any (someFresh c) l;
+      present = count (present c) l;
+      near = any (freshNear c) l;
+      ahead = any (freshAdvance c) l;
+      held = any (someHeld c) l;
+    }
+
+-- the greatest-risk condition, from what was seen of the tracks
+abbrev pub risky : Survey → Bool
+risky v = v .fresh && leb 2 (v .present)

@@ -1,0 +1,46 @@
+-- When the signs of a station's tracks turn, in ticks from now. Nothing here is believed: the clock's promise is `ticks`, and `Timed` says of a
+-- timetable what it means in the words of document 01.
+use Prim.Native.Nat.{ℕ, zero, suc, _-_, _<_, max, min}
+use mathlib.Core.Path.{_≡_}
+use mathlib.Core.Bool.{Bool, cond, not, _&&_}
+use mathlib.Core.List.{List}
+use lib.Dec.{leb, ltb}
+use Rattle.islands.specs.Ageing.{late}
+use Rattle.islands.specs.Fresh.{present, someFresh}
+use Rattle.islands.specs.Lists.{any, count}
+use Rattle.islands.specs.Turns.{laterTrack}
+use Rattle.islands.specs.declared.Settings.{Settings}
+use Rattle.islands.specs.declared.Track.{Track}
+use Rattle.islands.specs.declared.Turns.{Turns}
+use Rattle.station.specs.declared.ticking.Timetable.{Timetable}
+
+-- n ticks later some track has a fresh approaching island exactly when n is below the first number; at least one track counts for the greatest risk
+-- from the second number on, at least two from the third; and the fault latches from the fourth on.
+pub record Timed (c : Settings) (l : List Track) (r : Timetable) : Type 0 where
+  pub fresh : (n : ℕ) → any (λ t. someFresh c (laterTrack n t)) l ≡ ltb n (r .fresh)
+  pub first : (n : ℕ) → n < 65536 → leb 1 (count (λ t. present c (laterTrack n t)) l) ≡ leb (r .first) n
+  pub second : (n : ℕ) → n < 65536 → leb 2 (count (λ t. present c (laterTrack n t)) l) ≡ leb (r .second) n
+  pub late : (n : ℕ) → n < 65536 → any (λ t. late c (laterTrack n t)) l ≡ leb (r .late) n
+
+-- a timetable with one more track in it
+abbrev pub withTurns : Timetable → Turns → Timetable
+withTurns r u =
+    record {
+      fresh = max (r .fresh) (u .fresh);
+      first = min (r .first) (u .present);
+      second = min (r .second) (max (r .first) (u .present));
+      late = min (r .late) (u .late);
+    }
+
+-- the greatest-risk condition n ticks later
+abbrev pub riskAt : Timetable → ℕ → Bool
+riskAt r n = ltb n (r .fresh) && leb (r .second) n
+
+-- a hold that falls by one where the condition is false, and is set to T4 where it is true
+abbrev pub lowered : Bool → ℕ → ℕ
+lowered risk hold = cond (not risk && ltb 0 hold) (hold - 1) hold
+
+-- the hold n ticks later, where the condition is known at each of them
+unfoldable pub holdAfter : (ℕ → Bool) → ℕ → ℕ → ℕ → ℕ
+holdAfter risk t4 hold zero = hold
+holdAfter risk t4 hold (suc n) = cond (risk (suc n)) t4 (lowered (risk n) (holdAfter risk t4 hold n))

@@ -1,0 +1,59 @@
+// A station with one thing changed.
+ghost use mathlib.Core.Path.{_≡_};
+ghost use Rattle.station.specs.Station.{trackAt, withCondition, withTrack};
+ghost use Rattle.station.specs.With.{withFault, withHold};
+use crate::Station;
+use crate::making::free_track;
+use islands::Track;
+
+// The track with this number; past the last one, a free track.
+pub fn track_at(station: Station, number: u8) -> Track
+    ensures { λ r. ⌜ r ≡ trackAt station number ⌝ }
+{
+    let tracks = station.tracks;
+    let at = number as usize;
+    if at < 4 {
+        return tracks[at];
+    }
+    free_track()
+}
+
+// The station with another track at a number; past the last one, the station as it is.
+pub fn with_track(station: Station, number: u8, track: Track) -> Station
+    ensures { λ r. ⌜ r ≡ withTrack station number track ⌝ }
+{
+    let mut next = station;
+    let at = number as usize;
+    if at < 4 {
+        next.tracks[at] = track;
+    }
+    next
+}
+
+// The station with another condition at a head; past the last one, the station as it is.
+pub fn with_condition(station: Station, head: u8, condition: u16) -> Station
+    ensures { λ r. ⌜ r ≡ withCondition station head condition ⌝ }
+{
+    let mut next = station;
+    let at = head as usize;
+    if at < 2 {
+        next.conditions[at] = condition;
+    }
+    next
+}
+
+pub fn with_fault(station: Station, fault: bool) -> Station
+    ensures { λ r. ⌜ r ≡ withFault station fault ⌝ }
+{
+    let mut next = station;
+    next.fault = fault;
+    next
+}
+
+pub fn with_hold(station: Station, hold: u16) -> Station
+    ensures { λ r. ⌜ r ≡ withHold station hold ⌝ }
+{
+    let mut next = station;
+    next.hold = hold;
+    next
+}

@@ -1,0 +1,37 @@
+// A station: what it is, what it shows, and what the clock does to it.
+mod changing;
+mod making;
+mod showing;
+mod surveying;
+mod ticking;
+
+pub use changing::track_at;
+pub use changing::with_condition;
+pub use changing::with_fault;
+pub use changing::with_hold;
+pub use changing::with_track;
+use islands::Settings;
+use islands::Track;
+pub use making::make;
+pub use making::settings_answer;
+pub use showing::aspect;
+pub use showing::heads;
+pub use showing::presence;
+pub use showing::zones;
+pub use surveying::hold_set;
+pub use ticking::clock;
+
+// Up to four tracks, of which the settings' number count. The hold is what is left of T4, in ticks.
+pub struct Station {
+    pub settings: Settings,
+    pub tracks: [Track; 4],
+    pub hold: u16,
+    pub fault: bool,
+    pub conditions: [u16; 2],
+}
+
+// The answer to settings, and the station made of them.
+pub struct Made {
+    pub answer: u8,
+    pub station: Station,
+}
