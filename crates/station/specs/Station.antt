@@ -1,12 +1,13 @@
 -- Document 01, "What the station is": the station's tracks, and how a station is made.
 use Prim.Native.Nat.{ℕ}
-use mathlib.Core.Bool.{Bool, cond, not}
+use mathlib.Core.Bool.{Bool, cond, not, _||_}
 use mathlib.Core.List.{List}
 use lib.Dec.{eqb}
 use lib.ListN.{getD, set, take, drop}
 use Rattle.answers.specs.FirstRefusal.{_if_then_}
 use Rattle.answers.specs.Numbers.{done, outsideLimits}
-use Rattle.islands.specs.Islands.{freeTrack, withinLimits}
+use Rattle.islands.specs.Islands.{freeTrack, someFailed, someOccupied, withinLimits}
+use Rattle.islands.specs.Lists.{any}
 use Rattle.islands.specs.declared.Settings.{Settings}
 use Rattle.islands.specs.declared.Track.{Track}
 use Rattle.station.specs.With.{freshStation, withTracks, withConditions}
@@ -22,6 +23,10 @@ beyond s = drop (s .settings .tracks) (s .tracks)
 
 unfoldable pub trackAt : Station → ℕ → Track
 trackAt s a = getD (s .tracks) a freeTrack
+
+-- an island occupied or a detector failed
+unfoldable pub obstructed : Station → Bool
+obstructed s = any someOccupied (live s) || any someFailed (live s)
 
 unfoldable pub withTrack : Station → ℕ → Track → Station
 withTrack s a t = withTracks s (set (s .tracks) a t)

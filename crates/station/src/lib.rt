@@ -19,6 +19,7 @@ pub use showing::heads;
 pub use showing::presence;
 pub use showing::zones;
 pub use surveying::hold_set;
+pub use surveying::is_obstructed;
 pub use ticking::clock;
 
 // Up to four tracks, of which the settings' number count. The hold is what is left of T4, in ticks.

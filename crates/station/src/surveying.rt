@@ -3,6 +3,7 @@ ghost use mathlib.Core.Path.{_≡_};
 ghost use Prim.Native.Nat.{min};
 ghost use lib.ListN.{take};
 ghost use Rattle.station.specs.Clock.{holdSet};
+ghost use Rattle.station.specs.Station.{obstructed};
 ghost use Rattle.station.specs.Survey.{risky, surveyOf};
 use crate::Station;
 use islands::Settings;
@@ -78,4 +79,22 @@ pub fn hold_set(station: Station) -> Station
         next.hold = settings.t4;
     }
     next
+}
+
+// Whether any island is occupied or any detector has failed.
+pub fn is_obstructed(station: Station) -> bool
+    ensures { λ r. ⌜ r ≡ obstructed station ⌝ }
+{
+    let live = live_tracks(station.settings.tracks);
+    let tracks = station.tracks;
+    let mut occupied = false;
+    let mut failed = false;
+    let mut j: usize = 0;
+    while j < live {
+        let track = tracks[j];
+        occupied = occupied | islands::some_occupied(track);
+        failed = failed | islands::some_failed(track);
+        j += 1;
+    }
+    occupied | failed
 }

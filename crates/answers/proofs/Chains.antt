@@ -1,0 +1,25 @@
+-- Tests in an order: what the first that refuses gives, and what is left when one passes.
+-- Assumes nothing.
+use Prim.Native.Nat.{ℕ}
+use mathlib.Core.Path.{_≡_, refl, sym, ap, _∙_}
+use mathlib.Core.Bool.{Bool, true, false, cond}
+use borrow.Author.Tests.{eq-eqb, ne-eqb}
+use lib.Dec.{eqb}
+use Rattle.answers.specs.FirstRefusal.{_if_then_, _▷_}
+
+pub refuses : (n m : ℕ) (t : Bool) → t ≡ true → n ≡ (n if t then m)
+unfolding _if_then_
+refuses n m t e = sym (ap (λ (b : Bool). cond b n m) e)
+
+pub passes : (x n m : ℕ) (t : Bool) → t ≡ false → x ≡ m → x ≡ (n if t then m)
+unfolding _if_then_
+passes x n m t e h = h ∙ sym (ap (λ (b : Bool). cond b n m) e)
+
+-- the same of groups of tests, where v is what was worked out of the first group
+pub group-refuses : (v x y : ℕ) → v ≡ x → (v ≡ 0 → ⊥) → v ≡ (x ▷ y)
+unfolding _▷_
+group-refuses v x y e h = e ∙ sym (ap (λ (b : Bool). cond b y x) (ne-eqb x 0 (λ q. h (e ∙ q))))
+
+pub group-passes : (v x y z : ℕ) → v ≡ x → v ≡ 0 → z ≡ y → z ≡ (x ▷ y)
+unfolding _▷_
+group-passes v x y z e h k = k ∙ sym (ap (λ (b : Bool). cond b y x) (eq-eqb x 0 (sym e ∙ h)))

@@ -1,0 +1,48 @@
+-- What is made of a report: the island that it names, and the answer with the station after it.
+-- Assumes nothing.
+use Prim.Native.Nat.{ℕ}
+use mathlib.Core.Path.{_≡_, refl, sym, ap, ap₂, _∙_}
+use mathlib.Core.Bool.{Bool, cond}
+use borrow.Author.Tests.{eq-eqb, ne-eqb}
+use lib.Dec.{eqb}
+use Rattle.islands.specs.Mark.{withIsland}
+use Rattle.islands.specs.declared.Island.{Island}
+use Rattle.islands.specs.declared.Track.{Track}
+use Rattle.reports.specs.Answer.{answerOf}
+use Rattle.reports.specs.Reports.{acted, kindOf, namedTrack, withNamed}
+use Rattle.reports.specs.Taken.{stationAfter, taken}
+use Rattle.reports.specs.declared.Report.{Report}
+use Rattle.reports.specs.declared.Taken.{Taken}
+use Rattle.station.specs.Station.{trackAt, withTrack}
+use Rattle.station.specs.declared.Station.{Station}
+
+-- the station with what becomes of the island that the report names
+pub named : (now : Track → ℕ → Island) (s : Station) (r : Report) (t : Track) (i : Island) (w : Station)
+    → t ≡ trackAt s (r .a)
+    → i ≡ now t (r .b)
+    → w ≡ withTrack s (r .a) (withIsland t (r .b) i)
+    → w ≡ withNamed s r (now (namedTrack s r) (r .b))
+named now s r t i w et ei ew =
+    ew ∙ ap₂ (λ (u : Track) (j : Island). withTrack s (r .a) (withIsland u (r .b) j)) et (ei ∙ ap (λ (u : Track). now u (r .b)) et)
+
+-- a kind is what its number means
+pub meant : (s : Station) (r : Report) {k : ℕ} → r .kind ≡ k → acted (kindOf (r .kind)) s r ≡ acted (kindOf k) s r
+meant s r e = ap (λ (n : ℕ). acted (kindOf n) s r) e
+
+-- An accepted report does what it means; a refused one returns the old station.
+pub after-accepted : (s : Station) (r : Report) → answerOf s r ≡ 0 → stationAfter s r ≡ acted (kindOf (r .kind)) s r
+unfolding stationAfter
+after-accepted s r e = ap (λ (b : Bool). cond b (acted (kindOf (r .kind)) s r) s) (eq-eqb (answerOf s r) 0 e)
+
+pub after-refused : (s : Station) (r : Report) → (answerOf s r ≡ 0 → ⊥) → stationAfter s r ≡ s
+unfolding stationAfter
+after-refused s r e = ap (λ (b : Bool). cond b (acted (kindOf (r .kind)) s r) s) (ne-eqb (answerOf s r) 0 e)
+
+module _ (s : Station) (r : Report) (n : ℕ) (e : n ≡ answerOf s r) where
+  pub taken-accepted : (t : Station) → n ≡ 0 → t ≡ acted (kindOf (r .kind)) s r → _≡_ {A = Taken} (record { answer = n; station = t }) (taken s r)
+  unfolding taken
+  taken-accepted t z h = λ i. record { answer = e i; station = (h ∙ sym (after-accepted s r (sym e ∙ z))) i }
+
+  pub taken-refused : (n ≡ 0 → ⊥) → _≡_ {A = Taken} (record { answer = n; station = s }) (taken s r)
+  unfolding taken
+  taken-refused z = λ i. record { answer = e i; station = sym (after-refused s r (λ q. z (e ∙ q))) i }

@@ -1,0 +1,45 @@
+-- `failed`: the named island changed, the fault latched, then the hold set.
+-- Assumes nothing.
+use mathlib.Core.Path.{ap, _∙_}
+use mathlib.Core.Bool.{true}
+use Rattle.station.specs.Clock.{holdSet}
+use Rattle.station.specs.With.{withFault}
+use Rattle.station.specs.declared.Station.{Station}
+use Rattle.islands.specs.Mark.{detectorNow}
+use Rattle.reports.specs.Reports.{acted}
+use Rattle.reports.proofs.Taking.{named}
+use borrow.Author.Needs.{needs}
+use Rattle.reports.proofs.acting.failed.Statement.{statement}
+use Rattle.reports.proofs.acting.failed.Tie as tie
+
+track-at-requires : tie.Need-track-at-requires
+track-at-requires c κs = search needs
+
+detector-now-requires : tie.Need-detector-now-requires
+detector-now-requires c κs = search needs
+
+with-named-requires : tie.Need-with-named-requires
+with-named-requires c κs = search needs
+
+with-fault-requires : tie.Need-with-fault-requires
+with-fault-requires c κs = search needs
+
+hold-set-requires : tie.Need-hold-set-requires
+hold-set-requires c κs = search needs
+
+returns : tie.Need-returns
+unfolding acted
+returns c = let a = c .before .before .before .before .before .args in
+    let island = named (detectorNow true) (a .station) (a .report) _ _ _ (c .before .before .before .before .track-at .ensures) (c .before .before .before .detector-now .ensures) (c .before .before .with-named .ensures) in
+    c .hold-set .ensures ∙ ap holdSet (c .before .with-fault .ensures ∙ ap (λ (s : Station). withFault s true) island)
+
+pub failed-spec : {M : Type 1} → statement M
+failed-spec =
+    tie.close
+    (tie.spec
+    track-at-requires
+    detector-now-requires
+    with-named-requires
+    with-fault-requires
+    hold-set-requires
+    returns)

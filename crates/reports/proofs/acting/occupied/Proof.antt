@@ -1,0 +1,37 @@
+-- `occupied`: the named island changed, then the hold set.
+-- Assumes nothing.
+use mathlib.Core.Path.{ap, _∙_}
+use Rattle.station.specs.Clock.{holdSet}
+use Rattle.islands.specs.Mark.{occupiedNow}
+use Rattle.reports.specs.Reports.{acted}
+use Rattle.reports.proofs.Taking.{named}
+use borrow.Author.Needs.{needs}
+use Rattle.reports.proofs.acting.occupied.Statement.{statement}
+use Rattle.reports.proofs.acting.occupied.Tie as tie
+
+track-at-requires : tie.Need-track-at-requires
+track-at-requires c κs = search needs
+
+occupied-now-requires : tie.Need-occupied-now-requires
+occupied-now-requires c κs = search needs
+
+with-named-requires : tie.Need-with-named-requires
+with-named-requires c κs = search needs
+
+hold-set-requires : tie.Need-hold-set-requires
+hold-set-requires c κs = search needs
+
+returns : tie.Need-returns
+unfolding acted
+returns c = let a = c .before .before .before .before .args in
+    c .hold-set .ensures ∙ ap holdSet (named (occupiedNow) (a .station) (a .report) _ _ _ (c .before .before .before .track-at .ensures) (c .before .before .occupied-now .ensures) (c .before .with-named .ensures))
+
+pub occupied-spec : {M : Type 1} → statement M
+occupied-spec =
+    tie.close
+    (tie.spec
+    track-at-requires
+    occupied-now-requires
+    with-named-requires
+    hold-set-requires
+    returns)

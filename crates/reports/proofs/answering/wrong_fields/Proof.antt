@@ -1,0 +1,36 @@
+-- `wrong_fields`: an arm for each kind that names no island; of the others the value alone is shown as 0.
+-- Assumes nothing.
+use mathlib.Core.Path.{sym, ap, _∙_}
+use mathlib.Core.Bool.{Bool, not, _&&_}
+use lib.Dec.{eqb}
+use Prim.Native.Nat.{ℕ}
+use Rattle.reports.specs.Answer.{wrongFields}
+use Rattle.reports.specs.Reports.{kindOf}
+use Rattle.reports.proofs.ByNumber.{value-alone}
+use borrow.Author.Needs.{needs}
+use Rattle.reports.proofs.answering.wrong_fields.Statement.{statement}
+use Rattle.reports.proofs.answering.wrong_fields.Tie as tie
+
+names-island-requires : tie.Need-names-island-requires
+names-island-requires c κs = search needs
+
+returns : tie.Need-returns
+unfolding kindOf
+returns c = sym (ap (λ (k : ℕ). wrongFields (kindOf k) (c .before .before .before .before .args .report)) (c .before .before .before .match .keys1))
+
+returns-2 : tie.Need-returns-2
+unfolding kindOf
+returns-2 c = sym (ap (λ (k : ℕ). wrongFields (kindOf k) (c .before .before .before .args .report)) (c .before .before .match .keys2))
+
+returns-3 : tie.Need-returns-3
+unfolding kindOf
+returns-3 c = sym (ap (λ (k : ℕ). wrongFields (kindOf k) (c .before .before .before .before .args .report)) (c .before .before .before .match .keys3))
+
+returns-4 : tie.Need-returns-4
+returns-4 c = let r = c .before .before .before .args .report in
+    let m = c .before .before .match in
+    ap (λ (b : Bool). b && not (eqb (r .value) 0)) (c .before .names-island .ensures) ∙ value-alone r (r .kind) (m .rest .0 .0 .1) (m .rest .0 .1) (m .rest .1)
+
+pub wrong-fields-spec : {M : Type 1} → statement M
+wrong-fields-spec =
+    tie.close (tie.spec names-island-requires returns returns-2 returns-3 returns-4)

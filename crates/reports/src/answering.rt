@@ -1,0 +1,113 @@
+// Document 01, "The numbers it answers": the tests of a report, in their order.
+ghost use mathlib.Core.Path.{_≡_};
+ghost use Rattle.reports.specs.Answer.{already as Answer·already, answerOf, formAnswer, known as Answer·known, namesIsland, placeAnswer, stateAnswer, wrongFields};
+ghost use Rattle.reports.specs.Reports.{kindOf};
+use crate::Report;
+use answers::ALREADY_SO;
+use answers::BAD_FIELD;
+use answers::DONE;
+use answers::NO_SUCH_HEAD;
+use answers::NO_SUCH_ISLAND;
+use answers::NO_SUCH_KIND;
+use answers::NO_SUCH_TRACK;
+use answers::NOT_CLEAR;
+use islands::Island;
+use station::Station;
+
+// The number that a report is answered with, 0 to 8.
+pub fn answer(station: Station, report: Report) -> u8
+    ensures { λ r. ⌜ r ≡ answerOf station report ⌝ }
+{
+    let settings = station::settings_answer(station.settings);
+    if settings != DONE {
+        return settings;
+    }
+    let form = form_answer(report);
+    if form != DONE {
+        return form;
+    }
+    let place = place_answer(station, report);
+    if place != DONE {
+        return place;
+    }
+    state_answer(station, report)
+}
+
+// 1 or 2: what is wrong with a report by itself.
+fn form_answer(report: Report) -> u8
+    ensures { λ r. ⌜ r ≡ formAnswer report ⌝ }
+{
+    let unknown = !known(report.kind);
+    if unknown {
+        return NO_SUCH_KIND;
+    }
+    let wrong = (report.spare != 0) | wrong_fields(report);
+    if wrong { BAD_FIELD } else { DONE }
+}
+
+fn known(kind: u8) -> bool
+    ensures { λ r. ⌜ r ≡ Answer·known (kindOf kind) ⌝ }
+{
+    (1 <= kind) & (kind <= 7)
+}
+
+fn wrong_fields(report: Report) -> bool
+    ensures { λ r. ⌜ r ≡ wrongFields (kindOf (report .kind)) report ⌝ }
+{
+    let kind = report.kind;
+    match kind {
+        3 => (report.a != 0) | (report.b != 0) | (report.value == 0),
+        6 => (report.b != 0) | (1023 < report.value),
+        7 => (report.a != 0) | (report.b != 0) | (report.value != 0),
+        _ => names_island(kind) & (report.value != 0),
+    }
+}
+
+// 3, 5 or 4: a track, head or island that the station does not have.
+fn place_answer(station: Station, report: Report) -> u8
+    ensures { λ r. ⌜ r ≡ placeAnswer station report ⌝ }
+{
+    let island = names_island(report.kind);
+    let no_track = island & (station.settings.tracks <= report.a);
+    if no_track {
+        return NO_SUCH_TRACK;
+    }
+    let no_head = (report.kind == 6) & (1 < report.a);
+    if no_head {
+        return NO_SUCH_HEAD;
+    }
+    let no_island = island & (4 < report.b);
+    if no_island { NO_SUCH_ISLAND } else { DONE }
+}
+
+fn names_island(kind: u8) -> bool
+    ensures { λ r. ⌜ r ≡ namesIsland (kindOf kind) ⌝ }
+{
+    (kind == 1) | (kind == 2) | (kind == 4) | (kind == 5)
+}
+
+// 6 or 7: what the station as it is refuses.
+fn state_answer(station: Station, report: Report) -> u8
+    ensures { λ r. ⌜ r ≡ stateAnswer station report ⌝ }
+{
+    let kind = report.kind;
+    if kind == 7 {
+        let busy = station::is_obstructed(station);
+        return if busy { NOT_CLEAR } else { DONE };
+    }
+    let track = station::track_at(station, report.a);
+    let again = already(kind, islands::island_at(track, report.b));
+    if again { ALREADY_SO } else { DONE }
+}
+
+fn already(kind: u8, island: Island) -> bool
+    ensures { λ r. ⌜ r ≡ Answer·already (kindOf kind) island ⌝ }
+{
+    match kind {
+        1 => island.occupied,
+        2 => !island.occupied,
+        4 => island.failed,
+        5 => !island.failed,
+        _ => false,
+    }
+}

@@ -1,0 +1,84 @@
+-- `is_obstructed`: after j tracks, whether one of the first j has an island occupied, or a detector failed.
+-- Assumes nothing.
+use mathlib.Core.List.{List}
+use Rattle.islands.specs.declared.Track.{Track}
+use Prim.Native.Nat.{ℕ, _≤_, _-_, min}
+use mathlib.Core.Path.{_≡_, refl, sym, ap, ap₂, _∙_}
+use mathlib.Core.Bool.{_||_}
+use mathlib.Core.List.{[]}
+use lib.ListN.{length, take}
+use borrow.Author.Needs.{needs}
+use native.Mathlib.Omega.{arith}
+use Rattle.islands.proofs.Below.{any-more, take-least}
+use Rattle.islands.proofs.Listed.{counted}
+use Rattle.islands.specs.Islands.{someFailed, someOccupied}
+use Rattle.islands.specs.Lists.{any}
+use Rattle.station.specs.Station.{obstructed}
+use Rattle.station.proofs.surveying.is_obstructed.Statement.{statement}
+use Rattle.station.proofs.surveying.is_obstructed.Tie as tie
+
+abbrev Inv-loop : tie.InvT-loop
+Inv-loop live tracks occupied₀ failed₀ j₀ occupied failed j = (j ≤ live) × ((occupied ≡ any someOccupied (take j tracks)) × (failed ≡ any someFailed (take j tracks)))
+
+abbrev μ-loop : tie.MeasureT-loop
+μ-loop live tracks occupied₀ failed₀ j₀ occupied failed j = live - j
+
+live-tracks-requires : tie.Need-live-tracks-requires Inv-loop μ-loop
+live-tracks-requires c κs = search needs
+
+loop-holds : tie.Need-loop-holds Inv-loop μ-loop
+loop-holds c = (search needs, (refl, refl))
+
+mul-track : tie.Need-mul-track Inv-loop μ-loop
+mul-track c = search needs
+
+array-copy-out-track : tie.Need-array-copy-out-track Inv-loop μ-loop
+array-copy-out-track c = search needs
+
+some-occupied-requires : tie.Need-some-occupied-requires Inv-loop μ-loop
+some-occupied-requires c κs = search needs
+
+some-failed-requires : tie.Need-some-failed-requires Inv-loop μ-loop
+some-failed-requires c κs = search needs
+
+add-j : tie.Need-add-j Inv-loop μ-loop
+add-j c = search needs
+
+loop-less : tie.Need-loop-less Inv-loop μ-loop
+loop-less c = search needs
+
+loop-again : tie.Need-loop-again Inv-loop μ-loop
+loop-again c = let k = c .before .before .before .before in
+    let l = k .before .before .before .args .station .tracks in
+    let len : length l ≡ 4 = search (needs, counted) in (
+      search needs,
+      (
+        ap₂ _||_ (k .loop .inv .1 .0) (c .before .some-occupied .ensures) ∙ sym (any-more someOccupied l (k .loop .j) (record { islands = [] }) (omega arith)),
+        ap₂ _||_ (k .loop .inv .1 .1) (c .some-failed .ensures) ∙ sym (any-more someFailed l (k .loop .j) (record { islands = [] }) (omega arith)),
+      ),
+    )
+
+returns : tie.Need-returns Inv-loop μ-loop
+unfolding obstructed
+returns c = let s = c .before .before .before .before .args .station in
+    let len : length (s .tracks) ≡ 4 = search (needs, counted) in
+    let end : c .before .loop .j ≡ min (s .settings .tracks) 4 = omega arith in
+    let all = ap (λ (n : ℕ). take n (s .tracks)) end ∙ take-least (s .tracks) (s .settings .tracks) 4 len in
+    ap₂ _||_ (c .before .loop .inv .1 .0) (c .before .loop .inv .1 .1) ∙ ap (λ (l : List Track). any someOccupied l || any someFailed l) all
+
+pub is-obstructed-spec : {M : Type 1} → statement M
+is-obstructed-spec =
+    tie.close
+    (tie.spec
+    Inv-loop
+    μ-loop
+    live-tracks-requires
+    loop-holds
+    mul-track
+    array-copy-out-track
+    some-occupied-requires
+    some-failed-requires
+    add-j
+    loop-less
+    loop-again
+    returns)
