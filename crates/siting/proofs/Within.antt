@@ -1,5 +1,5 @@
 -- What both distances rest on: the limits tested bound the numerator, and they alone decide the answer.
-use mathlib.Core.Path.{_≡_}
+use mathlib.Core.Path.{_≡_, sym, ap, _∙_}
 use mathlib.Core.Bool.{Bool, true, false, not, _&&_, and-eq-true-iff}
 use Prim.Native.Nat.{ℕ, _*_, _≤_}
 use native.Mathlib.Nat.{le-trans, mul-le-mul}
@@ -9,7 +9,6 @@ use Rattle.answers.specs.FirstRefusal.{_if_then_}
 use Rattle.answers.specs.Limits.{within}
 use Rattle.answers.specs.Numbers.{done, outsideLimits}
 use Rattle.siting.specs.Siting.{sited, speedGood}
-use Rattle.siting.specs.declared.Metres.{Metres}
 use Rattle.siting.specs.declared.Sited.{Sited}
 
 -- the speed v is good, and so is the second number x, from l to m
@@ -22,7 +21,7 @@ most l m x t = leb-true x m (and-eq-true-iff (leb l x) (leb x m) .0 t .1)
 pub bounds : (v l m x : ℕ) → good v l m x ≡ true → (v ≤ 350) × (x ≤ m)
 bounds v l m x t = let each = and-eq-true-iff (speedGood v) (within l m x) .0 t in (most 1 350 v (each .0), most l m x (each .1))
 
--- the numerator, a product of two bounded numbers, is never above what `eighteenths` takes
+-- the numerator, a product of two bounded numbers, is never above what `found` takes
 pub product : {a b : ℕ} (x y : ℕ) → T (leb (x * y) 157500) → a ≤ x → b ≤ y → a * b ≤ 157500
 product x y t p q = le-trans (mul-le-mul p q) (lit≤ t)
 
@@ -30,12 +29,10 @@ product x y t p q = le-trans (mul-le-mul p q) (lit≤ t)
 abbrev answered : Bool → ℕ → Sited
 answered g n = sited (outsideLimits if not g then done) n
 
-pub met : (g : Bool) (n : ℕ) (d : Metres) → g ≡ true → d .0 ≡ n → record { answer = 0; distance = d } ≡ answered g n
+pub met : (g : Bool) (n : ℕ) {r : Sited} → g ≡ true → r ≡ sited done n → r ≡ answered g n
 unfolding _if_then_
-met true n d t e = rw (← e)
-met false n d t e = cc
+met g n t e = e ∙ sym (ap (λ (b : Bool). answered b n) t)
 
-pub missed : (g : Bool) (n : ℕ) (d : Metres) → g ≡ false → d .0 ≡ 0 → record { answer = 8; distance = d } ≡ answered g n
+pub missed : (g : Bool) (n : ℕ) {r : Sited} → g ≡ false → r ≡ sited outsideLimits 0 → r ≡ answered g n
 unfolding _if_then_
-missed false n d t e = rw (← e)
-missed true n d t e = cc
+missed g n t e = e ∙ sym (ap (λ (b : Bool). answered b n) t)

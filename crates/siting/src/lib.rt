@@ -1,7 +1,8 @@
 // Document 01, "Siting": how far from the crossing the detectors stand.
 ghost use mathlib.Core.Path.{_≡_};
 ghost use Prim.Native.Nat.{_≤_};
-ghost use Rattle.siting.specs.Siting.{advanceSited, roundedUp, warningSited};
+ghost use Rattle.siting.specs.Siting.{advanceSited, roundedUp, sited, warningSited};
+ghost use Rattle.answers.specs.Numbers.{done, outsideLimits};
 use answers::DONE;
 use answers::OUTSIDE_LIMITS;
 
@@ -52,16 +53,9 @@ pub fn advance(speed: u16, message: Seconds) -> Sited
     let seconds = message.number();
     let good = (1 <= speed) & (speed <= 350) & (seconds <= 60);
     if good {
-        let n = 5 * speed as u32 * (30 + seconds as u32);
-        return Sited {
-            answer: DONE,
-            distance: Metres::of(eighteenths(n)),
-        };
+        return found(5 * speed as u32 * (30 + seconds as u32));
     }
-    Sited {
-        answer: OUTSIDE_LIMITS,
-        distance: Metres::of(0),
-    }
+    refused()
 }
 
 // The warning distance, for a speed in km/h and the number of tracks to cross.
@@ -70,22 +64,27 @@ pub fn warning(speed: u16, tracks: u8) -> Sited
 {
     let good = (1 <= speed) & (speed <= 350) & (1 <= tracks) & (tracks <= 4);
     if good {
-        let n = 5 * speed as u32 * 7 * tracks as u32;
-        return Sited {
-            answer: DONE,
-            distance: Metres::of(eighteenths(n)),
-        };
+        return found(5 * speed as u32 * 7 * tracks as u32);
     }
+    refused()
+}
+
+// A number of eighteenths of a metre, rounded up once. The greatest is 5 · 350 · 90.
+fn found(eighteenths: u32) -> Sited
+    requires { ⌜ eighteenths ≤ 157500 ⌝ }
+    ensures { λ r. ⌜ r ≡ sited done (roundedUp eighteenths 18) ⌝ }
+{
+    Sited {
+        answer: DONE,
+        distance: Metres::of(((eighteenths + 17) / 18) as u16),
+    }
+}
+
+fn refused() -> Sited
+    ensures { λ r. ⌜ r ≡ sited outsideLimits 0 ⌝ }
+{
     Sited {
         answer: OUTSIDE_LIMITS,
         distance: Metres::of(0),
     }
-}
-
-// A number of eighteenths of a metre, rounded up once. The greatest is 5 · 350 · 90.
-fn eighteenths(n: u32) -> u16
-    requires { ⌜ n ≤ 157500 ⌝ }
-    ensures { λ r. ⌜ r ≡ roundedUp n 18 ⌝ }
-{
-    ((n + 17) / 18) as u16
 }

@@ -36,3 +36,12 @@ pub struct Made {
     pub answer: u8,
     pub station: Station,
 }
+
+// What each head shows: nine output bits.
+pub type HeadOutputs = [u16; 2];
+
+// 0 where any track occupies the island, else 1, in island order.
+pub type ZoneDigits = [u8; 5];
+
+// Whether a track counts for the greatest risk.
+pub type TrackPresence = [bool; 4];

@@ -10,7 +10,10 @@ ghost use Rattle.islands.specs.Lists.{any};
 ghost use Rattle.station.specs.Aspect.{aspectOf};
 ghost use Rattle.station.specs.Station.{trackAt};
 ghost use Rattle.station.specs.Shown.{headsOf, presenceOf, zonesOf};
+use crate::HeadOutputs;
 use crate::Station;
+use crate::TrackPresence;
+use crate::ZoneDigits;
 use crate::changing::track_at;
 use crate::surveying::live_tracks;
 use crate::surveying::look_over;
@@ -60,7 +63,7 @@ fn lines(risk: bool, near: bool, ahead: bool, held: bool) -> u8
 }
 
 // What each head shows.
-pub fn heads(station: Station) -> [u16; 2]
+pub fn heads(station: Station) -> HeadOutputs
     ensures { λ r. ⌜ r ≡ headsOf station ⌝ }
 {
     let outputs = signal::outputs(aspect(station));
@@ -72,7 +75,7 @@ pub fn heads(station: Station) -> [u16; 2]
 }
 
 // The five zone digits in island order: 0 where any track occupies it, else 1.
-pub fn zones(station: Station) -> [u8; 5]
+pub fn zones(station: Station) -> ZoneDigits
     ensures { λ r. ⌜ r ≡ zonesOf station ⌝ }
 {
     let settings = station.settings;
@@ -105,7 +108,7 @@ fn zone(settings: Settings, tracks: [Track; 4], number: u8) -> u8
 }
 
 // Which tracks count for the greatest risk.
-pub fn presence(station: Station) -> [bool; 4]
+pub fn presence(station: Station) -> TrackPresence
     ensures { λ r. ⌜ r ≡ presenceOf station ⌝ }
 {
     let good = islands::within_limits(station.settings);
