@@ -3,7 +3,7 @@
 use Prim.Native.Nat.{ℕ}
 use mathlib.Core.Path.{_≡_, refl, sym, ap, _∙_}
 use mathlib.Core.Bool.{Bool, true, false, cond}
-use borrow.Author.Tests.{eq-eqb, ne-eqb}
+use borrow.Author.Tests.{eq-eqb, eqb-false, eqb-true, ne-eqb}
 use lib.Dec.{eqb}
 use Rattle.answers.specs.FirstRefusal.{_if_then_, _▷_}
 
@@ -23,3 +23,21 @@ group-refuses v x y e h = e ∙ sym (ap (λ (b : Bool). cond b y x) (ne-eqb x 0 
 pub group-passes : (v x y z : ℕ) → v ≡ x → v ≡ 0 → z ≡ y → z ≡ (x ▷ y)
 unfolding _▷_
 group-passes v x y z e h k = k ∙ sym (ap (λ (b : Bool). cond b y x) (eq-eqb x 0 (sym e ∙ h)))
+
+-- groups of tests that answer the same, the second wherever the first refuses nothing
+pub same-order : (x x′ y y′ : ℕ) → x ≡ x′ → (x ≡ 0 → y ≡ y′) → x ▷ y ≡ x′ ▷ y′
+unfolding _▷_
+same-order x x′ y y′ e f = go (eqb x 0) refl ∙ ap (λ (n : ℕ). cond (eqb n 0) y′ n) e
+  where
+    go : (b : Bool) → eqb x 0 ≡ b → cond (eqb x 0) y x ≡ cond (eqb x 0) y′ x
+    go true q = rw q (f (eqb-true x 0 q))
+    go false q = rw q
+
+-- an answer of 0 says that both groups refuse nothing
+pub both-done : (x y : ℕ) → x ▷ y ≡ 0 → (x ≡ 0) × (y ≡ 0)
+unfolding _▷_
+both-done x y e = go (eqb x 0) refl e
+  where
+    go : (b : Bool) → eqb x 0 ≡ b → cond b y x ≡ 0 → (x ≡ 0) × (y ≡ 0)
+    go true q z = (eqb-true x 0 q, z)
+    go false q z = absurd (eqb-false x 0 q z)

@@ -20,7 +20,7 @@ pub struct Sited {
 
 impl Seconds {
     pub fn of(number: u16) -> Self
-        ensures { λ r. ⌜ r .0 ≡ number ⌝ }
+        ensures { λ r. ⌜ r ≡ record { 0 = number } ⌝ }
     {
         Self(number)
     }
@@ -34,7 +34,7 @@ impl Seconds {
 
 impl Metres {
     pub fn of(number: u16) -> Self
-        ensures { λ r. ⌜ r .0 ≡ number ⌝ }
+        ensures { λ r. ⌜ r ≡ record { 0 = number } ⌝ }
     {
         Self(number)
     }

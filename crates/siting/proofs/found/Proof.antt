@@ -14,7 +14,7 @@ of-requires : tie.Need-of-requires
 of-requires c κs = search needs
 
 returns : tie.Need-returns
-returns c = λ k. record { answer = 0; distance = record { 0 = c .of .ensures k } }
+returns c = λ k. record { answer = 0; distance = c .of .ensures k }
 
 pub found-spec : {M : Type 1} → statement M
 found-spec = tie.close (tie.spec add-of cast-of of-requires returns)

@@ -8,7 +8,7 @@ of-requires : tie.Need-of-requires
 of-requires c κs = search needs
 
 returns : tie.Need-returns
-returns c = λ k. record { answer = 8; distance = record { 0 = c .of .ensures k } }
+returns c = λ k. record { answer = 8; distance = c .of .ensures k }
 
 pub refused-spec : {M : Type 1} → statement M
 refused-spec = tie.close (tie.spec of-requires returns)

@@ -1,0 +1,54 @@
+-- Document 01, "Rows to hold against the rules" and "The numbers it answers": the definitions that their rows compute with. Whoever says
+-- `unfolding computed` opens them all.
+use Rattle.answers.specs.FirstRefusal.{_if_then_, _▷_}
+use Rattle.islands.specs.Ageing.{late, older, olderTrack}
+use Rattle.islands.specs.Fresh.{freshAdvance, freshNear, present, someFresh, someHeld}
+use Rattle.islands.specs.Islands.{someFailed, someOccupied, withinLimits}
+use Rattle.islands.specs.Mark.{detectorNow, freeNow, leavingMark, occupiedNow, withIsland}
+use Rattle.reports.specs.Answer.{answerOf, formAnswer, placeAnswer, stateAnswer}
+use Rattle.reports.specs.Reports.{acted, kindOf}
+use Rattle.reports.specs.Taken.{stationAfter}
+use Rattle.signal.specs.Heads.{headOutputs}
+use Rattle.signal.specs.Outputs.{outputsOf}
+use Rattle.siting.specs.Siting.{advanceSited, warningSited}
+use Rattle.station.specs.Aspect.{aspectOf, greatestRisk}
+use Rattle.station.specs.Clock.{allOlder, faultLatched, holdLowered, holdSet, tick, ticks}
+use Rattle.station.specs.Shown.{headsOf, presenceOf, zonesOf}
+use Rattle.station.specs.Station.{made, obstructed, settingsAnswer, trackAt, withCondition, withTrack}
+use Rattle.station.specs.With.{freshStation}
+
+ofAnswers : Unit {0}
+unfolding _if_then_ _▷_
+ofAnswers = tt
+
+ofSignals : Unit {0}
+unfolding headOutputs outputsOf
+ofSignals = tt
+
+ofSiting : Unit {0}
+unfolding advanceSited warningSited
+ofSiting = tt
+
+ofMarks : Unit {0}
+unfolding detectorNow freeNow leavingMark occupiedNow withIsland
+ofMarks = tt
+
+ofTracks : Unit {0}
+unfolding late older olderTrack freshAdvance freshNear present someFresh someHeld someFailed someOccupied withinLimits
+ofTracks = tt
+
+ofStations : Unit {0}
+unfolding aspectOf greatestRisk headsOf presenceOf zonesOf freshStation made obstructed settingsAnswer trackAt withCondition withTrack
+ofStations = tt
+
+ofTheClock : Unit {0}
+unfolding allOlder faultLatched holdLowered holdSet tick ticks
+ofTheClock = tt
+
+ofReports : Unit {0}
+unfolding answerOf formAnswer placeAnswer stateAnswer acted kindOf stationAfter
+ofReports = tt
+
+unfoldable pub computed : Unit {0}
+unfolding ofAnswers ofSignals ofSiting ofMarks ofTracks ofStations ofTheClock ofReports
+computed = tt

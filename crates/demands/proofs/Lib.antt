@@ -1,0 +1,9 @@
+pub mod Apart
+pub mod ApartLaws
+pub mod ApartTracks
+pub mod Computed
+pub mod HouseRows
+pub mod Idle
+pub mod Once
+pub mod Refusals
+pub mod Rows

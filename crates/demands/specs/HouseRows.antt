@@ -1,0 +1,96 @@
+-- Rows of our own, for sentences of document 01 that C1 to C14 would not catch if they were wrong. What is due is read off the sentence that stands above
+-- each.
+use Prim.Native.Nat.{ℕ}
+use mathlib.Core.Bool.{Bool, true, cond}
+use mathlib.Core.List.{List, [], _∷_, _++_, map}
+use Rattle.demands.specs.Machine.{ours}
+use Rattle.demands.specs.Refusals.{condition, failed, fiveTracks, restored}
+use Rattle.demands.specs.Table.{Row, c1, c2, c3, c4, c7, c9, clock, freed, normalised, occupied, outputs, row, run, settings}
+use Rattle.islands.specs.Ageing.{older}
+use Rattle.islands.specs.declared.Island.{Island}
+use Rattle.reports.specs.declared.Report.{Report}
+use Rattle.signal.specs.Heads.{headOutputs}
+use Rattle.signal.specs.Outputs.{outputsOf}
+use Rattle.station.specs.Shown.{headsOf, presenceOf, zonesOf}
+use Rattle.station.specs.declared.Station.{Station}
+
+-- ours after these reports, from a normalised station; or from one of another T4
+abbrev pub shown : List Report → ℕ
+shown reports = outputs ours (run ours (c2 ours) reports)
+
+abbrev pub shownWith : ℕ → List Report → ℕ
+shownWith t4 reports = outputs ours (run ours (ours .make (settings t4)) (normalised ∷ reports))
+
+-- several numbers, row by row, against those due; a number too many or too few is a wrong row
+abbrev pub rows : ℕ → List ℕ → List ℕ → List Row
+rows name [] [] = []
+rows name [] (d ∷ due) = row name 0 1 ∷ []
+rows name (g ∷ got) [] = row name 0 1 ∷ []
+rows name (g ∷ got) (d ∷ due) = row name g d ∷ rows name got due
+
+abbrev pub digits : List Bool → List ℕ
+digits l = map (λ b. cond b 1 0) l
+
+-- a train that leaves by side 1, as far as its warning island
+abbrev pub leaving : ℕ → List Report
+leaving track = occupied track 2 ∷ occupied track 1 ∷ freed track 2 ∷ []
+
+abbrev pub houseRows : List Row
+houseRows =
+    -- 1: lowering the hold on the tick that ends the condition, T4 = 1 would hold nothing. Both islands are held at tick 300; the hold is gone at 301.
+    row 1 (shownWith 1 (occupied 0 4 ∷ occupied 1 4 ∷ clock 299 ∷ [])) 152
+    ∷ row 1 (shownWith 1 (occupied 0 4 ∷ occupied 1 4 ∷ clock 300 ∷ [])) 152
+    ∷ row 1 (shownWith 1 (occupied 0 4 ∷ occupied 1 4 ∷ clock 301 ∷ [])) 260
+    -- 2: a held island on one track does not hide a fresh leaving warning island from the count
+    ∷ row 2 (shown (occupied 0 4 ∷ clock 300 ∷ leaving 1 ++ (occupied 0 3 ∷ []))) 152
+    -- 3: two trains on one track never count as two
+    ∷ row 3 (shown (occupied 0 0 ∷ occupied 0 4 ∷ [])) 34
+    -- 4: the same train by the other side: its warning and advance islands of side 2 are leaving,
+    ∷ row 4 (shown (occupied 0 0 ∷ occupied 0 1 ∷ freed 0 0 ∷ occupied 0 2 ∷ occupied 0 3 ∷ freed 0 1 ∷ freed 0 2 ∷ [])) 1
+    ∷ row 4 (shown (occupied 0 2 ∷ occupied 0 3 ∷ freed 0 2 ∷ occupied 0 4 ∷ freed 0 3 ∷ [])) 1
+    -- and held after their timers like any other
+    ∷ row 4 (shown (occupied 0 2 ∷ occupied 0 3 ∷ freed 0 2 ∷ clock 300 ∷ [])) 260
+    -- 5: a warning island is approaching where the advance island of the same side is occupied and approaching, though the crossing is occupied; the other
+    -- side's advance island is not asked
+    ∷ row 5 (shown (occupied 0 2 ∷ occupied 0 4 ∷ occupied 0 3 ∷ freed 0 2 ∷ [])) 72
+    ∷ row 5 (shown (occupied 0 2 ∷ occupied 0 4 ∷ occupied 0 1 ∷ freed 0 2 ∷ [])) 34
+    -- 6: a failed detector latches the fault; restoring does not unlatch it; normalise does
+    ∷ row 6 (shown (failed 1 0 ∷ [])) 0
+    ∷ row 6 (shown (failed 1 0 ∷ restored 1 0 ∷ [])) 0
+    ∷ row 6 (shown (failed 1 0 ∷ restored 1 0 ∷ normalised ∷ [])) 1
+    -- 7: reports of trains are taken while the fault is latched
+    ∷ row 7 (ours .answer (c1 ours) (occupied 0 4)) 0
+    -- 8: normalise sets the hold to 0
+    ∷ row 8 (outputs ours (run ours (c9 ours) (freed 0 4 ∷ []))) 152
+    ∷ row 8 (outputs ours (run ours (c9 ours) (freed 0 4 ∷ normalised ∷ []))) 1
+    -- 9: n ticks are n single ticks, in one report or in several
+    ∷ row 9 (outputs ours (run ours (c9 ours) (clock 20 ∷ clock 29 ∷ []))) 152
+    ∷ row 9 (outputs ours (run ours (c9 ours) (clock 20 ∷ clock 30 ∷ []))) 34
+    -- 10: a leaving warning island latches the fault too
+    ∷ row 10 (shown (leaving 0 ++ (clock 599 ∷ []))) 260
+    ∷ row 10 (shown (leaving 0 ++ (clock 600 ∷ []))) 0
+    -- 11: an age stops at 65535
+    ∷ row 11 (older (record { occupied = true; leaving = true; failed = true; age = 65534 }) .age) 65535
+    ∷ row 11 (older (record { occupied = true; leaving = true; failed = true; age = 65535 }) .age) 65535
+    ∷
+    -- 12: a number above 5 gives 0
+    rows 12 (map outputsOf (0 ∷ 1 ∷ 2 ∷ 3 ∷ 4 ∷ 5 ∷ 6 ∷ 255 ∷ [])) (1 ∷ 34 ∷ 72 ∷ 152 ∷ 260 ∷ 0 ∷ 0 ∷ 0 ∷ [])
+    -- 13: any failed lamp or board: the five lamp outputs 0, sounders kept
+    ++ rows 13 (map (headOutputs 152) (1 ∷ 2 ∷ 4 ∷ 8 ∷ 15 ∷ [])) (128 ∷ 128 ∷ 128 ∷ 128 ∷ 128 ∷ [])
+    -- 14: power, communication, or more than one failed sounder: outputs 0
+    ++ rows 14 (map (headOutputs 152) (256 ∷ 512 ∷ 48 ∷ 144 ∷ 240 ∷ [])) (0 ∷ 0 ∷ 0 ∷ 0 ∷ 0 ∷ [])
+    -- 15: one failed sounder: that one silent. Bits from 10 up are not read.
+    ++ rows 15
+    (headOutputs 34 16 ∷ headOutputs 72 32 ∷ headOutputs 152 64 ∷ headOutputs 260 128 ∷ headOutputs 152 16 ∷ headOutputs 152 1024 ∷ [])
+    (2 ∷ 8 ∷ 24 ∷ 4 ∷ 152 ∷ 152 ∷ [])
+    -- 16: the two heads are worked out apart
+    ++ rows 16 (headsOf (run ours (c7 ours) (condition 1 8 ∷ []))) (152 ∷ 128 ∷ [])
+    -- 17: five zone digits in island order, 0 if any track occupies it
+    ++ rows 17 (zonesOf (c3 ours)) (1 ∷ 1 ∷ 1 ∷ 1 ∷ 0 ∷ [])
+    ++ rows 17 (zonesOf (c4 ours)) (1 ∷ 1 ∷ 1 ∷ 0 ∷ 0 ∷ [])
+    ++ rows 17 (zonesOf (c7 ours)) (1 ∷ 0 ∷ 1 ∷ 1 ∷ 0 ∷ [])
+    ++ rows 17 (zonesOf fiveTracks) (0 ∷ 0 ∷ 0 ∷ 0 ∷ 0 ∷ [])
+    -- 18: a track's presence is what the greatest-risk condition counts
+    ++ rows 18 (digits (presenceOf (c2 ours))) (0 ∷ 0 ∷ 0 ∷ 0 ∷ [])
+    ++ rows 18 (digits (presenceOf (c7 ours))) (1 ∷ 1 ∷ 0 ∷ 0 ∷ [])
+    ++ rows 18 (digits (presenceOf fiveTracks)) (1 ∷ 1 ∷ 1 ∷ 1 ∷ [])

@@ -1,0 +1,5 @@
+pub mod Agree
+pub mod HouseRows
+pub mod Machine
+pub mod Refusals
+pub mod Table
