@@ -4,14 +4,18 @@ use Prim.Native.Nat.{ℕ}
 use mathlib.Core.Bool.{Bool, true, cond}
 use mathlib.Core.List.{List, [], _∷_, _++_, map}
 use Rattle.demands.specs.Machine.{ours}
-use Rattle.demands.specs.Refusals.{condition, failed, fiveTracks, restored}
+use Rattle.demands.specs.Refusals.{answerAfter, condition, failed, fiveTracks, restored}
 use Rattle.demands.specs.Table.{Row, c1, c2, c3, c4, c7, c9, clock, freed, normalised, occupied, outputs, row, run, settings}
 use Rattle.islands.specs.Ageing.{older}
+use Rattle.islands.specs.Islands.{islandAt}
 use Rattle.islands.specs.declared.Island.{Island}
+use Rattle.reports.specs.Taken.{stationAfter}
 use Rattle.reports.specs.declared.Report.{Report}
 use Rattle.signal.specs.Heads.{headOutputs}
 use Rattle.signal.specs.Outputs.{outputsOf}
 use Rattle.station.specs.Shown.{headsOf, presenceOf, zonesOf}
+use Rattle.station.specs.Station.{trackAt}
+use Rattle.station.specs.With.{withHold}
 use Rattle.station.specs.declared.Station.{Station}
 
 -- ours after these reports, from a normalised station; or from one of another T4
@@ -35,6 +39,24 @@ digits l = map (λ b. cond b 1 0) l
 abbrev pub leaving : ℕ → List Report
 leaving track = occupied track 2 ∷ occupied track 1 ∷ freed track 2 ∷ []
 
+-- and as far as its advance island
+abbrev pub departing : ℕ → List Report
+departing track = leaving track ++ (occupied track 0 ∷ freed track 1 ∷ [])
+
+-- one island occupied for n ticks, with timers 100, 200 and 300
+abbrev pub shownAged : ℕ → ℕ → ℕ
+shownAged island n =
+    outputs ours (run ours (ours .make (record { tracks = 2; t1 = 100; t2 = 200; t3 = 300; t4 = 0; t5 = 600 })) (normalised ∷ occupied 0 island ∷ clock n ∷ []))
+
+-- island 1 of track 0: whether it is occupied, whether it is leaving, and its age
+abbrev pub seen : List Report → List ℕ
+seen reports =
+    let i : Island = islandAt (trackAt (run ours (c2 ours) reports) 0) 1 in digits (i .occupied ∷ i .leaving ∷ []) ++ (i .age ∷ [])
+
+-- two trains, a detector failed, T4 = 50, and no hold left: no run reaches this
+abbrev pub unheld : Station
+unheld = withHold (run ours (ours .make (settings 50)) (normalised ∷ occupied 0 4 ∷ occupied 1 4 ∷ occupied 1 0 ∷ failed 1 1 ∷ [])) 0
+
 abbrev pub houseRows : List Row
 houseRows =
     -- 1: lowering the hold on the tick that ends the condition, T4 = 1 would hold nothing. Both islands are held at tick 300; the hold is gone at 301.
@@ -54,6 +76,11 @@ houseRows =
     -- side's advance island is not asked
     ∷ row 5 (shown (occupied 0 2 ∷ occupied 0 4 ∷ occupied 0 3 ∷ freed 0 2 ∷ [])) 72
     ∷ row 5 (shown (occupied 0 2 ∷ occupied 0 4 ∷ occupied 0 1 ∷ freed 0 2 ∷ [])) 34
+    -- and it is leaving where that advance island is occupied but leaving
+    ∷ row 5 (shown (departing 0 ++ (occupied 0 2 ∷ occupied 0 1 ∷ freed 0 2 ∷ []))) 1
+    -- with the crossing free it is approaching; an advance island beside a warning island that is not leaving is approaching too
+    ∷ row 5 (shown (occupied 0 3 ∷ [])) 72
+    ∷ row 5 (shown (occupied 0 3 ∷ occupied 0 4 ∷ freed 0 3 ∷ [])) 34
     -- 6: a failed detector latches the fault; restoring does not unlatch it; normalise does
     ∷ row 6 (shown (failed 1 0 ∷ [])) 0
     ∷ row 6 (shown (failed 1 0 ∷ restored 1 0 ∷ [])) 0
@@ -73,24 +100,45 @@ houseRows =
     ∷ row 11 (older (record { occupied = true; leaving = true; failed = true; age = 65534 }) .age) 65535
     ∷ row 11 (older (record { occupied = true; leaving = true; failed = true; age = 65535 }) .age) 65535
     ∷
-    -- 12: a number above 5 gives 0
-    rows 12 (map outputsOf (0 ∷ 1 ∷ 2 ∷ 3 ∷ 4 ∷ 5 ∷ 6 ∷ 255 ∷ [])) (1 ∷ 34 ∷ 72 ∷ 152 ∷ 260 ∷ 0 ∷ 0 ∷ 0 ∷ [])
-    -- 13: any failed lamp or board: the five lamp outputs 0, sounders kept
-    ++ rows 13 (map (headOutputs 152) (1 ∷ 2 ∷ 4 ∷ 8 ∷ 15 ∷ [])) (128 ∷ 128 ∷ 128 ∷ 128 ∷ 128 ∷ [])
-    -- 14: power, communication, or more than one failed sounder: outputs 0
-    ++ rows 14 (map (headOutputs 152) (256 ∷ 512 ∷ 48 ∷ 144 ∷ 240 ∷ [])) (0 ∷ 0 ∷ 0 ∷ 0 ∷ 0 ∷ [])
-    -- 15: one failed sounder: that one silent. Bits from 10 up are not read.
+    -- 12: T1 belongs to the advance islands, T2 to warning, T3 to the crossing
+    rows 12 (map (shownAged 4) (99 ∷ 100 ∷ [])) (34 ∷ 260 ∷ [])
+    ++ rows 12 (map (shownAged 3) (199 ∷ 200 ∷ [])) (72 ∷ 260 ∷ [])
+    ++ rows 12 (map (shownAged 2) (299 ∷ 300 ∷ [])) (72 ∷ 260 ∷ [])
+    -- 13: a held island counts, though it is leaving. Track 0's becomes held at tick 300, when track 1's is fresh: the condition becomes true on a tick,
+    -- which sets the hold, so freeing the held island leaves the aspect.
+    ++ rows 13 (map (λ n. shownWith 50 (departing 0 ++ (clock 100 ∷ occupied 1 4 ∷ clock n ∷ []))) (199 ∷ 200 ∷ [])) (34 ∷ 152 ∷ [])
+    ++ rows 13 (shownWith 50 (departing 0 ++ (clock 100 ∷ occupied 1 4 ∷ clock 200 ∷ freed 0 0 ∷ [])) ∷ []) (152 ∷ [])
+    -- 14: after every accepted report the hold is set to T4 if the greatest-risk condition is then true, on a station handed in with less
+    ++ rows 14 (map (λ r. stationAfter unheld r .hold) (freed 1 0 ∷ failed 1 0 ∷ restored 1 1 ∷ condition 0 8 ∷ [])) (50 ∷ 50 ∷ 50 ∷ 50 ∷ [])
+    -- 15: a detector stays failed while its island is occupied and freed, and an island occupied while its detector fails and is restored
     ++ rows 15
+    (answerAfter (failed 0 4 ∷ occupied 0 4 ∷ freed 0 4 ∷ []) normalised
+    ∷ answerAfter (occupied 0 4 ∷ failed 0 4 ∷ freed 0 4 ∷ []) normalised
+    ∷ answerAfter (occupied 0 4 ∷ failed 0 4 ∷ []) (occupied 0 4)
+    ∷ answerAfter (occupied 0 4 ∷ failed 0 4 ∷ restored 0 4 ∷ []) (occupied 0 4)
+    ∷ [])
+    (7 ∷ 7 ∷ 6 ∷ 6 ∷ [])
+    -- 16: a free island has no mark and age 0; occupied, its age becomes 0
+    ++ rows 16 (seen (leaving 0 ++ (clock 5 ∷ [])) ++ seen (leaving 0 ++ (clock 5 ∷ freed 0 1 ∷ []))) (1 ∷ 1 ∷ 5 ∷ 0 ∷ 0 ∷ 0 ∷ [])
+    ++ rows 16 (seen (leaving 0 ++ (clock 5 ∷ freed 0 1 ∷ occupied 0 1 ∷ []))) (1 ∷ 0 ∷ 0 ∷ [])
+    -- 17: a number above 5 gives 0
+    ++ rows 17 (map outputsOf (0 ∷ 1 ∷ 2 ∷ 3 ∷ 4 ∷ 5 ∷ 6 ∷ 255 ∷ [])) (1 ∷ 34 ∷ 72 ∷ 152 ∷ 260 ∷ 0 ∷ 0 ∷ 0 ∷ [])
+    -- 18: any failed lamp or board: the five lamp outputs 0, sounders kept
+    ++ rows 18 (map (headOutputs 152) (1 ∷ 2 ∷ 4 ∷ 8 ∷ 15 ∷ [])) (128 ∷ 128 ∷ 128 ∷ 128 ∷ 128 ∷ [])
+    -- 19: power, communication, or more than one failed sounder: outputs 0
+    ++ rows 19 (map (headOutputs 152) (256 ∷ 512 ∷ 48 ∷ 144 ∷ 240 ∷ [])) (0 ∷ 0 ∷ 0 ∷ 0 ∷ 0 ∷ [])
+    -- 20: one failed sounder: that one silent. Bits from 10 up are not read.
+    ++ rows 20
     (headOutputs 34 16 ∷ headOutputs 72 32 ∷ headOutputs 152 64 ∷ headOutputs 260 128 ∷ headOutputs 152 16 ∷ headOutputs 152 1024 ∷ [])
     (2 ∷ 8 ∷ 24 ∷ 4 ∷ 152 ∷ 152 ∷ [])
-    -- 16: the two heads are worked out apart
-    ++ rows 16 (headsOf (run ours (c7 ours) (condition 1 8 ∷ []))) (152 ∷ 128 ∷ [])
-    -- 17: five zone digits in island order, 0 if any track occupies it
-    ++ rows 17 (zonesOf (c3 ours)) (1 ∷ 1 ∷ 1 ∷ 1 ∷ 0 ∷ [])
-    ++ rows 17 (zonesOf (c4 ours)) (1 ∷ 1 ∷ 1 ∷ 0 ∷ 0 ∷ [])
-    ++ rows 17 (zonesOf (c7 ours)) (1 ∷ 0 ∷ 1 ∷ 1 ∷ 0 ∷ [])
-    ++ rows 17 (zonesOf fiveTracks) (0 ∷ 0 ∷ 0 ∷ 0 ∷ 0 ∷ [])
-    -- 18: a track's presence is what the greatest-risk condition counts
-    ++ rows 18 (digits (presenceOf (c2 ours))) (0 ∷ 0 ∷ 0 ∷ 0 ∷ [])
-    ++ rows 18 (digits (presenceOf (c7 ours))) (1 ∷ 1 ∷ 0 ∷ 0 ∷ [])
-    ++ rows 18 (digits (presenceOf fiveTracks)) (1 ∷ 1 ∷ 1 ∷ 1 ∷ [])
+    -- 21: the two heads are worked out apart
+    ++ rows 21 (headsOf (run ours (c7 ours) (condition 1 8 ∷ []))) (152 ∷ 128 ∷ [])
+    -- 22: five zone digits in island order, 0 if any track occupies it
+    ++ rows 22 (zonesOf (c3 ours)) (1 ∷ 1 ∷ 1 ∷ 1 ∷ 0 ∷ [])
+    ++ rows 22 (zonesOf (c4 ours)) (1 ∷ 1 ∷ 1 ∷ 0 ∷ 0 ∷ [])
+    ++ rows 22 (zonesOf (c7 ours)) (1 ∷ 0 ∷ 1 ∷ 1 ∷ 0 ∷ [])
+    ++ rows 22 (zonesOf fiveTracks) (0 ∷ 0 ∷ 0 ∷ 0 ∷ 0 ∷ [])
+    -- 23: a track's presence is what the greatest-risk condition counts
+    ++ rows 23 (digits (presenceOf (c2 ours))) (0 ∷ 0 ∷ 0 ∷ 0 ∷ [])
+    ++ rows 23 (digits (presenceOf (c7 ours))) (1 ∷ 1 ∷ 0 ∷ 0 ∷ [])
+    ++ rows 23 (digits (presenceOf fiveTracks)) (1 ∷ 1 ∷ 1 ∷ 1 ∷ [])
