@@ -9,7 +9,7 @@ use mathlib.Core.Path.{_≡_, refl, sym, ap, ap₂, _∙_}
 use mathlib.Core.Bool.{Bool, true, false, cond, _||_, or-false, or-assoc}
 use mathlib.Core.List.{List, [], _∷_, _++_, map, map-append, append-assoc}
 use lib.ListN.{length, getD, take, drop, set, length-append, length-map, length-take, take-append-drop, drop-of-length-le}
-use lib.Seq.{take-suc, take-all, drop-cons, set-at, length-take-le, append-snoc, getD-at, take-at}
+use lib.Seq.{take-suc, take-all, drop-cons, set-at, length-take-le, append-snoc, getD-at, set-getD}
 use Rattle.islands.specs.Lists.{any, count}
 
 one-more : (b : Bool) (m n k : ℕ) → m ≡ n + k → cond b (suc m) m ≡ cond b (suc n) n + k
@@ -103,6 +103,10 @@ module _ {A : Type 0} (f : A → A) where
   pub changed-next : (j : ℕ) (l m : List A) (d x : A) → j < length l → m ≡ changed j l → x ≡ f (getD m j d) → set m j x ≡ changed (j + 1) l
   changed-next j l m d x h e g =
       ap₂ (λ (k : List A) (y : A). set k j y) e (g ∙ ap (λ (k : List A). f (getD k j d)) e ∙ ap f (changed-at j l d h)) ∙ changed-more j l d h
+
+  -- an element that the change leaves as it is
+  pub changed-skip : (j : ℕ) (l m : List A) (d : A) → j < length l → m ≡ changed j l → f (getD m j d) ≡ getD m j d → m ≡ changed (j + 1) l
+  changed-skip j l m d h e g = sym (set-getD m j d) ∙ changed-next j l m d (getD m j d) h e (sym g)
 
   pub changed-take : (j : ℕ) (l : List A) → take j (changed j l) ≡ map f (take j l)
   changed-take zero l = refl

@@ -1,4 +1,5 @@
 pub mod Below
+pub mod FreeTracks
 pub mod Islands
 pub mod UpperLimits
 pub mod Listed

@@ -11,10 +11,11 @@ use borrow.Author.Tests.{le-leb, lt-leb, leb-true, lt-ltb, le-ltb}
 use lib.Dec.{leb, ltb}
 use lib.ListN.{length, getD, take, drop, take-append-drop}
 use Rattle.islands.proofs.Below.{any-more, any-map, changed, changed-drop, changed-take, count-more, count-map}
+use Rattle.islands.proofs.FreeTracks.{no-fresh, no-late, no-later, no-present}
 use Rattle.islands.proofs.Turned.{below-greater, from-both, from-lesser, track-now, track-older, turning}
 use Rattle.islands.specs.Ageing.{late, olderTrack}
 use Rattle.islands.specs.Fresh.{present, someFresh}
-use Rattle.islands.specs.Islands.{Zone, timer}
+use Rattle.islands.specs.Islands.{Zone, someOccupied, timer}
 use Rattle.islands.specs.Lists.{any, count}
 use Rattle.islands.specs.Turns.{Turning, laterTrack, never, turnsOf}
 use Rattle.islands.specs.declared.Settings.{Settings}
@@ -71,6 +72,32 @@ timed-more c l j d r u h e t =
           ∙ from-lesser n (r .second) (max (r .first) (u .present));
       late = λ n k. any-more (λ x. late c (laterTrack n x)) l j d h ∙ ap₂ _||_ (e .late n k) (t .late n k) ∙ from-lesser n (r .late) (u .late);
     }
+
+-- a track with no island occupied adds nothing
+pub timed-skip : (c : Settings) (l : List Track) (j : ℕ) (d : Track) (r : Timetable)
+    → j < length l
+    → someOccupied (getD l j d) ≡ false
+    → Timed c (take j l) r
+    → Timed c (take (j + 1) l) r
+timed-skip c l j d r h o e =
+    record {
+      fresh = λ n. any-more (λ x. someFresh c (laterTrack n x)) l j d h ∙ or-nothing _ _ (ap (someFresh c) (no-later t o n) ∙ no-fresh t o c) ∙ e .fresh n;
+      first = λ n k. ap (leb 1) (uncounted n) ∙ e .first n k;
+      second = λ n k. ap (leb 2) (uncounted n) ∙ e .second n k;
+      late = λ n k. any-more (λ x. late c (laterTrack n x)) l j d h ∙ or-nothing _ _ (ap (late c) (no-later t o n) ∙ no-late t o c) ∙ e .late n k;
+    }
+  where
+    t : Track
+    t = getD l j d
+
+    or-nothing : (a b : Bool) → b ≡ false → a || b ≡ a
+    or-nothing a b z = ap (λ (x : Bool). a || x) z ∙ or-false a
+
+    uncounted : (n : ℕ) → count (λ x. present c (laterTrack n x)) (take (j + 1) l) ≡ count (λ x. present c (laterTrack n x)) (take j l)
+    uncounted n =
+        count-more (λ x. present c (laterTrack n x)) l j d h
+        ∙ ap (λ (b : Bool). count (λ x. present c (laterTrack n x)) (take j l) + cond b 1 0) (ap (present c) (no-later t o n) ∙ no-present t o c)
+        ∙ add-zero (count (λ x. present c (laterTrack n x)) (take j l))
 
 -- as the code goes on
 pub timed-next : (c : Settings) (l : List Track) (j : ℕ) (d : Track) (r v : Timetable) (u : Turns)

@@ -2,7 +2,7 @@
 //
 // Between reports only ages change, so the signs of a track turn at ticks that can be told beforehand. A
 // clock report looks at each island once to tell them, walks its ticks one by one with the hold alone,
-// and then sets the ages.
+// and then sets the ages. A track with no island occupied is passed over.
 ghost use mathlib.Core.Path.{_≡_};
 ghost use mathlib.Core.Bool.{cond};
 ghost use mathlib.Core.List.{_++_, map};
@@ -59,7 +59,11 @@ fn timetable_of(settings: Settings, tracks: [Track; 4]) -> Timetable
     };
     let mut j: usize = 0;
     while j < live {
-        table = with_turns(table, islands::turns_of(settings, tracks[j]));
+        let track = tracks[j];
+        let busy = islands::some_occupied(track);
+        if busy {
+            table = with_turns(table, islands::turns_of(settings, track));
+        }
         j += 1;
     }
     table
@@ -125,7 +129,10 @@ fn later_tracks(settings: Settings, tracks: [Track; 4], n: u16) -> [Track; 4]
     let mut j: usize = 0;
     while j < live {
         let track = later[j];
-        later[j] = islands::later_track(track, n);
+        let busy = islands::some_occupied(track);
+        if busy {
+            later[j] = islands::later_track(track, n);
+        }
         j += 1;
     }
     later

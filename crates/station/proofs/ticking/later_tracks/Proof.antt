@@ -1,14 +1,15 @@
--- `later_tracks`: after j tracks the first j are later, in place.
+-- `later_tracks`: after j tracks the first j are later, in place; a free track stays.
 -- Assumes nothing.
+use Prim.Native.Nat.{ℕ, _≤_, _<_, _-_, min}
+use mathlib.Core.Path.{_≡_, refl, sym, ap, _∙_}
+use mathlib.Core.Logic.{⊎-elim}
 use mathlib.Core.List.{[]}
-use lib.ListN.{length-set}
-use Prim.Native.Nat.{ℕ, _≤_, _-_, min}
-use mathlib.Core.Path.{_≡_, refl, ap, _∙_}
-use lib.ListN.{length}
+use lib.ListN.{length, length-set}
 use borrow.Author.Needs.{needs}
 use native.Mathlib.Omega.{arith}
 use Rattle.islands.proofs.Listed.{counted}
-use Rattle.islands.proofs.Below.{changed, changed-least, changed-next}
+use Rattle.islands.proofs.FreeTracks.{no-later}
+use Rattle.islands.proofs.Below.{changed, changed-least, changed-next, changed-skip}
 use Rattle.islands.specs.Turns.{laterTrack}
 use Rattle.station.proofs.ticking.later_tracks.Statement.{statement}
 use Rattle.station.proofs.ticking.later_tracks.Tie as tie
@@ -31,6 +32,9 @@ mul-track c = search needs
 array-copy-out-track : tie.Need-array-copy-out-track Inv-loop μ-loop
 array-copy-out-track c = search needs
 
+some-occupied-requires : tie.Need-some-occupied-requires Inv-loop μ-loop
+some-occupied-requires c κs = search needs
+
 later-track-requires : tie.Need-later-track-requires Inv-loop μ-loop
 later-track-requires c κs = search needs
 
@@ -47,14 +51,24 @@ loop-less : tie.Need-loop-less Inv-loop μ-loop
 loop-less c = search needs
 
 loop-again : tie.Need-loop-again Inv-loop μ-loop
-loop-again c = let k = c .before .before .before in
-    let a = k .before .before .args in
-    let len : length (a .tracks) ≡ 4 = search (needs, counted) in (
+loop-again c = let k = c .before .before .before .before .loop in
+    let a = c .before .before .before .before .before .before .args in
+    let f = laterTrack (a .n) in
+    let len : length (a .tracks) ≡ 4 = search (needs, counted) in
+    let below : k .j < length (a .tracks) = omega arith in (
       search needs,
-      (
-        length-set (k .loop .later) (k .loop .j) (c .later-track .result) ∙ k .loop .inv .1 .0,
-        changed-next (laterTrack (a .n)) (k .loop .j) (a .tracks) (k .loop .later) (record { islands = [] }) (c .later-track .result) (omega arith) (k .loop .inv .1 .1) (c .later-track .ensures),
-      ),
+      ⊎-elim
+          (λ w. (
+            ap length (w .2) ∙ length-set (k .later) (k .j) (w .1 .result) ∙ k .inv .1 .0,
+            w .2 ∙ changed-next f (k .j) (a .tracks) (k .later) (record { islands = [] }) (w .1 .result) below (k .inv .1 .1) (w .1 .ensures),
+          ))
+          (λ w. (
+            ap length (w .1) ∙ k .inv .1 .0,
+            w .1
+                ∙ changed-skip f (k .j) (a .tracks) (k .later) (record { islands = [] }) below (k .inv .1 .1)
+                (no-later _ (sym (c .before .some-occupied .ensures) ∙ w .0 .left) (a .n)),
+          ))
+          (c .if1 .came),
     )
 
 returns : tie.Need-returns Inv-loop μ-loop
@@ -75,6 +89,7 @@ later-tracks-spec =
     loop-holds
     mul-track
     array-copy-out-track
+    some-occupied-requires
     later-track-requires
     mul-later
     array-set-from-later

@@ -1,17 +1,18 @@
--- `timetable_of`: after j tracks the timetable is that of the first j.
+-- `timetable_of`: after j tracks the timetable is that of the first j; a free track adds nothing.
 -- Assumes nothing.
+use Prim.Native.Nat.{ℕ, _+_, _≤_, _<_, _-_, min}
+use mathlib.Core.Path.{_≡_, subst, sym, ap, _∙_}
+use mathlib.Core.Logic.{⊎-elim}
 use mathlib.Core.List.{List, []}
-use Rattle.islands.specs.declared.Track.{Track}
-use Rattle.islands.proofs.Below.{take-least}
-use Rattle.islands.proofs.Turned.{timers}
-use Prim.Native.Nat.{ℕ, _≤_, _-_, min}
-use mathlib.Core.Path.{_≡_, subst, ap, _∙_}
 use lib.ListN.{length, take}
 use borrow.Author.Needs.{needs}
 use native.Mathlib.Omega.{arith}
 use Rattle.islands.proofs.Listed.{counted}
+use Rattle.islands.proofs.Below.{take-least}
+use Rattle.islands.proofs.Turned.{timers}
+use Rattle.islands.specs.declared.Track.{Track}
 use Rattle.station.specs.Timetable.{Timed}
-use Rattle.station.proofs.Timing.{timed-none, timed-next}
+use Rattle.station.proofs.Timing.{timed-none, timed-next, timed-skip}
 use Rattle.station.proofs.ticking.timetable_of.Statement.{statement}
 use Rattle.station.proofs.ticking.timetable_of.Tie as tie
 
@@ -27,11 +28,14 @@ live-tracks-requires c κs = search needs
 loop-holds : tie.Need-loop-holds Inv-loop μ-loop
 loop-holds c = (search needs, timed-none (c .before .args .settings))
 
-mul-turns-of : tie.Need-mul-turns-of Inv-loop μ-loop
-mul-turns-of c = search (needs, counted)
+mul-track : tie.Need-mul-track Inv-loop μ-loop
+mul-track c = search (needs, counted)
 
-array-copy-out-turns-of : tie.Need-array-copy-out-turns-of Inv-loop μ-loop
-array-copy-out-turns-of c = search (needs, counted)
+array-copy-out-track : tie.Need-array-copy-out-track Inv-loop μ-loop
+array-copy-out-track c = search (needs, counted)
+
+some-occupied-requires : tie.Need-some-occupied-requires Inv-loop μ-loop
+some-occupied-requires c κs = search needs
 
 turns-of-requires : tie.Need-turns-of-requires Inv-loop μ-loop
 turns-of-requires c κs = search needs
@@ -46,16 +50,21 @@ loop-less : tie.Need-loop-less Inv-loop μ-loop
 loop-less c = search needs
 
 loop-again : tie.Need-loop-again Inv-loop μ-loop
-loop-again c = let a = c .before .before .before .before .before .before .args in
-    let len : length (a .t2) ≡ 4 = search (needs, counted) in (
+loop-again c = let k = c .before .before .before .before .loop in
+    let a = c .before .before .before .before .before .before .args in
+    let len : length (a .t2) ≡ 4 = search (needs, counted) in
+    let below : k .j < length (a .t2) = omega arith in (
       search needs,
-      timed-next (a .settings) (a .t2) (c .before .before .before .before .loop .j) (record { islands = [] }) _ _ _
-          (timers (a .settings) (search needs) (search needs) (search needs))
-          (search needs)
-          (omega arith)
-          (c .before .before .before .before .loop .inv .1)
-          (c .before .turns-of .ensures)
-          (c .with-turns .ensures),
+      ⊎-elim
+          (λ w.
+          timed-next (a .settings) (a .t2) (k .j) (record { islands = [] }) _ _ _ (timers (a .settings) (search needs) (search needs) (search needs)) (search needs) below
+          (k .inv .1)
+          (w .1 .ensures)
+          (w .3 ∙ w .2 .ensures))
+          (λ w.
+          subst (Timed (a .settings) (take (k .j + 1) (a .t2))) (sym (w .1))
+          (timed-skip (a .settings) (a .t2) (k .j) (record { islands = [] }) _ below (sym (c .before .some-occupied .ensures) ∙ w .0 .left) (k .inv .1)))
+          (c .if1 .came),
     )
 
 returns : tie.Need-returns Inv-loop μ-loop
@@ -74,8 +83,9 @@ timetable-of-spec =
     μ-loop
     live-tracks-requires
     loop-holds
-    mul-turns-of
-    array-copy-out-turns-of
+    mul-track
+    array-copy-out-track
+    some-occupied-requires
     turns-of-requires
     with-turns-requires
     add-j
