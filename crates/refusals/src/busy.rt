@@ -27,11 +27,13 @@ pub(crate) fn lines() {
     end();
 }
 
+// No two of its four tracks are alike.
 fn busy_station() -> Station {
     let rising = after(after(two_trains(), condition(0, 8)), condition(1, 64));
     let blind = after(after(rising, clock(7)), failed(1, 2));
-    let beyond = station::with_track(blind, 2, station::track_at(blind, 1));
-    station::with_track(beyond, 3, station::track_at(blind, 0))
+    let third = islands::later_track(station::track_at(blind, 0), 3);
+    let fourth = islands::later_track(station::track_at(blind, 1), 9);
+    station::with_track(station::with_track(blind, 2, third), 3, fourth)
 }
 
 // Settings 2 tracks, 300, 301, 302, 50, 600: no two timers alike.

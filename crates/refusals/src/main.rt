@@ -1,7 +1,7 @@
 // Document 01, "The numbers it answers": bad input gets its number and nothing changes, through the
 // compiled library. A line for each group of the table crates/demands/specs/Refusals.antt, with the
-// same cases in the same order, and one more on a busy station. Proofs do not cover the compiler's back end; this does. The file
-// stdout is typed from the document.
+// same cases in the same order, and one more on a busy station. Proofs do not cover the compiler's
+// back end; this does. The file stdout is typed from the document.
 mod busy;
 mod comparing;
 mod forms;
