@@ -14,15 +14,20 @@ use Rattle.station.specs.declared.Station.{Station}
 unfoldable pub greatestRisk : Station → Bool
 greatestRisk s = any (someFresh (s .settings)) (live s) && leb 2 (count (present (s .settings)) (live s))
 
--- The first line that holds gives the aspect: fault latched, out of service; condition true, or hold above 0, greatest risk; a fresh approaching
--- warning or crossing island, forbidden; a fresh approaching advance island, clearing; any held island, trains in the surroundings; otherwise
--- permitted. Of a station refused with 8 the aspect is 5.
+-- The first line that holds gives the aspect.
 unfoldable pub aspectOf : Station → ℕ
 aspectOf s =
+    -- (of a station refused with 8 the aspect is 5)
     5 if not (withinLimits (s .settings)) then
+    -- 1. fault latched: 5, out of service
     5 if s .fault then
+    -- 2. condition true, or hold above 0: 3, greatest risk
     3 if greatestRisk s || ltb 0 (s .hold) then
+    -- 3. a fresh approaching warning or crossing island: 2, forbidden
     2 if any (freshNear (s .settings)) (live s) then
+    -- 4. a fresh approaching advance island: 1, clearing
     1 if any (freshAdvance (s .settings)) (live s) then
+    -- 5. any held island: 4, trains in the surroundings
     4 if any (someHeld (s .settings)) (live s) then
+    -- 6. otherwise: 0, permitted
     0
