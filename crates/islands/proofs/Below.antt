@@ -1,24 +1,20 @@
 -- Laws of "any" and "how many" over the first j elements of a list: what a loop that goes through them needs.
 -- Assumes nothing.
-use Prim.Native.Nat.{ℕ, zero, suc, _+_, _≤_, _<_, min, zero-le}
-use native.Mathlib.Nat.{zero-add, suc-add}
+use Prim.Native.Nat.{ℕ, zero, suc, _+_, _≤_, _<_, min}
+use native.Mathlib.Nat.{zero-add}
 use native.Mathlib.Decide.{decLe}
 use native.Mathlib.Numerals.{add-one}
 use native.Mathlib.Omega.{arith}
 use mathlib.Core.Path.{_≡_, refl, sym, ap, ap₂, _∙_}
 use mathlib.Core.Bool.{Bool, true, false, cond, _||_, or-false, or-assoc}
 use mathlib.Core.List.{List, [], _∷_, _++_, map, map-append, append-assoc}
-use lib.ListN.{length, getD, take, drop, set, length-append, length-map, length-take, take-append-drop, drop-of-length-le}
-use lib.Seq.{take-suc, take-all, drop-cons, set-at, length-take-le, append-snoc, getD-at, set-getD}
+use lib.ListN.{length, getD, take, drop, set, length-map, drop-of-length-le}
+use lib.Seq.{take-suc, take-all, drop-cons, set-at, length-take-le, getD-at, set-getD}
 use Rattle.islands.specs.Lists.{any, count}
 
 one-more : (b : Bool) (m n k : ℕ) → m ≡ n + k → cond b (suc m) m ≡ cond b (suc n) n + k
 one-more true m n k e = omega arith
 one-more false m n k e = e
-
-no-more : (b : Bool) (m n : ℕ) → m ≤ n → cond b (suc m) m ≤ suc n
-no-more true m n h = omega arith
-no-more false m n h = omega arith
 
 module _ {A : Type 0} (p : A → Bool) where
   pub any-append : (xs ys : List A) → any p (xs ++ ys) ≡ any p xs || any p ys
@@ -35,13 +31,6 @@ module _ {A : Type 0} (p : A → Bool) where
 
   pub count-more : (l : List A) (j : ℕ) (d : A) → j < length l → count p (take (j + 1) l) ≡ count p (take j l) + cond (p (getD l j d)) 1 0
   count-more l j d h = rw (add-one, take-suc l j d h) (count-append (take j l) (getD l j d ∷ []))
-
-  count-length : (l : List A) → count p l ≤ length l
-  count-length [] = zero-le
-  count-length (x ∷ xs) = no-more (p x) (count p xs) (length xs) (count-length xs)
-
-  pub count-below : (l : List A) (j : ℕ) → count p (take j l) ≤ j
-  count-below l j = omega (arith, count-length (take j l), length-take j l)
 
 module _ {A : Type 0} where
   -- A number above the length names no more elements than there are.
@@ -79,13 +68,6 @@ module _ {A : Type 0} (f : A → A) where
   -- where the change has come to
   seam : (l : List A) (j : ℕ) → j < length l → length (map f (take j l)) ≡ j
   seam l j h = length-map (take j l) f ∙ length-take-le j l (omega arith)
-
-  pub changed-length : (j : ℕ) (l : List A) → length (changed j l) ≡ length l
-  changed-length j l =
-      length-append (map f (take j l)) (drop j l)
-      ∙ ap (λ (n : ℕ). n + length (drop j l)) (length-map (take j l) f)
-      ∙ sym (length-append (take j l) (drop j l))
-      ∙ ap length (take-append-drop j l)
 
   pub changed-at : (j : ℕ) (l : List A) (d : A) → j < length l → getD (changed j l) j d ≡ getD l j d
   changed-at j l d h = rw (drop-cons l j d h) (getD-at (map f (take j l)) (getD l j d) (drop (suc j) l) d j (seam l j h))

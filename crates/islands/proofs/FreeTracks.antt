@@ -1,7 +1,7 @@
 -- A track with no island occupied: ticks leave it as it is, and it shows no sign.
 -- Assumes nothing.
 use Prim.Native.Nat.{ℕ}
-use mathlib.Core.Path.{_≡_, refl, sym, ap, ap₂, _∙_}
+use mathlib.Core.Path.{_≡_, refl, sym, ap, ap₂}
 use mathlib.Core.Bool.{Bool, true, false, _||_, and-false, false≢true}
 use mathlib.Core.List.{List, [], _∷_, map}
 use Rattle.islands.proofs.Turned.{later-free}

@@ -6,8 +6,8 @@ use mathlib.Core.Bool.{Bool, false, _||_, or-false}
 use mathlib.Core.List.{List, [], _∷_}
 use lib.ListN.{length}
 use Rattle.islands.proofs.Listed.{tabulate, listed}
-use Rattle.islands.specs.Islands.{Zone, advance, warning, crossing, zones, free, islandAt, anyIsland}
-use Rattle.islands.specs.Lists.{any, anyWith}
+use Rattle.islands.specs.Islands.{Zone, advance, warning, crossing, free, islandAt, anyIsland}
+use Rattle.islands.specs.Lists.{any}
 use Rattle.islands.specs.Mark.{leavingMark}
 use Rattle.islands.specs.Turns.{later, laterTrack}
 use Rattle.islands.specs.declared.Island.{Island}

@@ -1,6 +1,6 @@
 -- The settings' upper limits are those of their type, so they hold of any that code can hold.
 -- Assumes nothing.
-use Prim.Native.Nat.{ℕ, _≤_}
+use Prim.Native.Nat.{_≤_}
 use mathlib.Core.Path.{_≡_}
 use mathlib.Core.Bool.{_&&_, and-true}
 use lib.Dec.{leb, ltb, leb·zero}

@@ -1,5 +1,5 @@
 -- Document 01, "Reports": what a single tick does to islands, and which of them latch the fault.
-use Prim.Native.Nat.{ℕ, _+_, min}
+use Prim.Native.Nat.{_+_, min}
 use mathlib.Core.Bool.{Bool, true, false, cond, _&&_}
 use mathlib.Core.List.{map}
 use lib.Dec.{leb}

@@ -2,13 +2,13 @@
 -- Assumes nothing.
 use Prim.Native.Nat.{ℕ, zero, suc, _<_}
 use native.Mathlib.Omega.{arith}
-use mathlib.Core.Path.{_≡_, refl, sym, ap, ap₂, _∙_}
-use mathlib.Core.Bool.{Bool, true, false, not, _&&_, _||_}
+use mathlib.Core.Path.{_≡_, refl, ap₂}
+use mathlib.Core.Bool.{false, not, _&&_, _||_}
 use borrow.Author.Tests.{le-leb, lt-leb, ne-eqb}
 use lib.Dec.{eqb, leb}
 use Rattle.islands.specs.declared.Island.{Island}
 use Rattle.reports.specs.Answer.{already, blocked, known, namesHead, namesIsland, wrongFields}
-use Rattle.reports.specs.Reports.{Kind, kindOf, noKind}
+use Rattle.reports.specs.Reports.{kindOf, noKind}
 use Rattle.reports.specs.declared.Report.{Report}
 use Rattle.station.specs.declared.Station.{Station}
 

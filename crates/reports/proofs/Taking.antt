@@ -1,10 +1,9 @@
 -- What is made of a report: the island that it names, and the answer with the station after it.
 -- Assumes nothing.
 use Prim.Native.Nat.{ℕ}
-use mathlib.Core.Path.{_≡_, refl, sym, ap, ap₂, _∙_}
+use mathlib.Core.Path.{_≡_, sym, ap, ap₂, _∙_}
 use mathlib.Core.Bool.{Bool, cond}
 use borrow.Author.Tests.{eq-eqb, ne-eqb}
-use lib.Dec.{eqb}
 use Rattle.islands.specs.Mark.{withIsland}
 use Rattle.islands.specs.declared.Island.{Island}
 use Rattle.islands.specs.declared.Track.{Track}

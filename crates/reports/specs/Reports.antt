@@ -1,7 +1,7 @@
 -- Document 01, "Reports": the kinds of report, and what an accepted one does.
 use Prim.Native.Nat.{ℕ}
-use mathlib.Core.Bool.{Bool, true, false}
-use mathlib.Core.List.{List, [], _∷_}
+use mathlib.Core.Bool.{true, false}
+use mathlib.Core.List.{[], _∷_}
 use lib.ListN.{getD}
 use Rattle.islands.specs.Islands.{islandAt}
 use Rattle.islands.specs.Mark.{detectorNow, freeNow, occupiedNow, withIsland}

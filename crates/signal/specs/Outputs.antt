@@ -1,5 +1,5 @@
 -- Document 01, "From islands to aspect": the outputs of an aspect.
-use Prim.Native.Nat.{ℕ, zero, suc, _+_, _^_}
+use Prim.Native.Nat.{ℕ, _+_, _^_}
 use mathlib.Core.List.{List, [], _∷_}
 use lib.ListN.{getD}
 

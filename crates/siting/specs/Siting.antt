@@ -5,7 +5,6 @@ use lib.Dec.{eqb}
 use Rattle.answers.specs.FirstRefusal.{_if_then_}
 use Rattle.answers.specs.Limits.{within}
 use Rattle.answers.specs.Numbers.{done, outsideLimits}
-use Rattle.siting.specs.declared.Metres.{Metres}
 use Rattle.siting.specs.declared.Seconds.{Seconds}
 use Rattle.siting.specs.declared.Sited.{Sited}
 

@@ -1,6 +1,6 @@
 -- Document 01, "Reports": the clock.
 use Prim.Native.Nat.{ℕ, zero, suc, _-_}
-use mathlib.Core.Bool.{Bool, cond, not, _&&_, _||_}
+use mathlib.Core.Bool.{cond, not, _&&_, _||_}
 use mathlib.Core.List.{map, _++_}
 use lib.Dec.{ltb}
 use Rattle.islands.specs.Ageing.{olderTrack, late}

@@ -1,10 +1,6 @@
 -- `signs_of_five`: what `see` ensures of each island, put together.
 -- Assumes nothing.
 use Rattle.islands.proofs.SeenIslands.{signs-of-seen}
-use mathlib.Core.Bool.{or-false}
-use Rattle.islands.specs.Ageing.{late}
-use Rattle.islands.specs.Fresh.{someFresh, present, freshNear, freshAdvance, someHeld}
-use Rattle.islands.specs.Signs.{signsOf}
 use borrow.Author.Needs.{needs}
 use Rattle.islands.proofs.shown.signs_of_five.Statement.{statement}
 use Rattle.islands.proofs.shown.signs_of_five.Tie as tie

@@ -3,10 +3,8 @@
 use mathlib.Core.Path.{sym, ap, _∙_}
 use mathlib.Core.Path.{refl}
 use Prim.Native.Nat.{ℕ}
-use mathlib.Core.Bool.{Bool}
 use Rattle.islands.specs.Islands.{islandAt}
 use Rattle.islands.specs.declared.Track.{Track}
-use Rattle.islands.specs.declared.Island.{Island}
 use Rattle.answers.proofs.Chains.{passes, refuses}
 use Rattle.reports.specs.Answer.{already, blocked, stateAnswer}
 use Rattle.reports.specs.Reports.{kindOf, namedIsland}

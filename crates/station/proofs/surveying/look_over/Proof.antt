@@ -1,6 +1,6 @@
 -- `look_over`: after j tracks the survey is that of the first j.
 -- Assumes nothing.
-use mathlib.Core.Path.{refl, sym, ap, _∙_}
+use mathlib.Core.Path.{refl, ap, _∙_}
 use Rattle.islands.proofs.Below.{take-least}
 use Prim.Native.Nat.{ℕ, _≤_, _-_, min}
 use mathlib.Core.List.{[]}

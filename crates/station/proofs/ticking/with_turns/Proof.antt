@@ -1,6 +1,6 @@
 -- `with_turns`: the greater and the lesser, field by field.
 -- Assumes nothing.
-use Prim.Native.Nat.{ℕ, min}
+use Prim.Native.Nat.{min}
 use mathlib.Core.Path.{_∙_, ap}
 use borrow.Author.Needs.{needs}
 use Rattle.station.proofs.ticking.with_turns.Statement.{statement}
