@@ -1,4 +1,4 @@
--- Document 01, "The numbers it answers": bad input gets its number, as rows of a single table.
+-- Document 01, "The numbers it answers": bad input gets its number, and input just within the limits gets 0, as rows of a single table.
 use Prim.Native.Nat.{ℕ}
 use mathlib.Core.Bool.{false}
 use mathlib.Core.List.{List, [], _∷_, _++_, map}
@@ -70,6 +70,10 @@ sitings =
     ∷ warningSited 155 5
     ∷ []
 
+-- and the sitings that stand just within the limits
+abbrev pub nearest : List Sited
+nearest = advanceSited 1 (seconds 0) ∷ advanceSited 350 (seconds 60) ∷ warningSited 1 1 ∷ warningSited 350 4 ∷ []
+
 abbrev pub refusals : List Row
 refusals =
     -- 1: kind is not 1 to 7
@@ -125,3 +129,18 @@ refusals =
     ++ each 28 3 (map answer (occupied 2 5 ∷ []))
     -- settings outside their limits, and no such kind:
     ++ each 29 8 (answerOf fiveTracks (report 8 0 0 0 0) ∷ [])
+    -- Each number is given in its stated case only: what stands just within a limit is answered 0. Settings, at their least and at their greatest,
+    ++ each 30 0 (map making (chosen 1 1 1 1 0 2 ∷ chosen 4 65535 65534 65535 65535 65535 ∷ []))
+    -- reports, the last track, the first and the last island, the last head, the shortest and the longest clock, the greatest condition,
+    ++ each 31 0 (map answer (occupied 1 0 ∷ occupied 1 4 ∷ condition 1 0 ∷ condition 0 1023 ∷ clock 1 ∷ clock 65535 ∷ []))
+    -- an island whose detector has failed, and a detector whose island is occupied,
+    ++ each 32 0
+    (answerAfter (failed 0 3 ∷ []) (occupied 0 3)
+    ∷ answerAfter (failed 0 3 ∷ occupied 0 3 ∷ []) (freed 0 3)
+    ∷ answerAfter (occupied 0 3 ∷ []) (failed 0 3)
+    ∷ answerAfter (occupied 0 3 ∷ failed 0 3 ∷ []) (restored 0 3)
+    ∷ [])
+    -- and siting: 1 km/h with 0 s, 350 km/h with 60 s, 1 km/h across 1 track, 350 km/h across 4
+    ++ each 33 0 (map (λ s. s .answer) nearest)
+    ++ (row 34 (advanceSited 1 (seconds 0) .distance .0) 9 ∷ row 34 (advanceSited 350 (seconds 60) .distance .0) 8750 ∷ [])
+    ++ (row 34 (warningSited 1 1 .distance .0) 2 ∷ row 34 (warningSited 350 4 .distance .0) 2723 ∷ [])

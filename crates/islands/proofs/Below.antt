@@ -33,23 +33,23 @@ module _ {A : Type 0} (p : A → Bool) where
   count-more l j d h = rw (add-one, take-suc l j d h) (count-append (take j l) (getD l j d ∷ []))
 
 module _ {A : Type 0} where
-  -- A number above the length names no more elements than there are.
-  pub take-least : (l : List A) (n m : ℕ) → length l ≡ m → take (min n m) l ≡ take n l
-  take-least l n m e = go (decLe m n)
+  -- j is where a loop over the first n of m elements ends: a number above the length names no more elements than there are
+  pub take-least : (l : List A) (j n m : ℕ) → length l ≡ m → j ≡ min n m → take j l ≡ take n l
+  take-least l j n m e end = go (decLe m n)
     where
-      go : Dec (m ≤ n) → take (min n m) l ≡ take n l
-      go (yes h) = take-all (min n m) l (omega arith) ∙ sym (take-all n l (omega arith))
-      go (no h) = let fewer : min n m ≡ n = omega arith in ap (λ (k : ℕ). take k l) fewer
+      go : Dec (m ≤ n) → take j l ≡ take n l
+      go (yes h) = take-all j l (omega arith) ∙ sym (take-all n l (omega arith))
+      go (no h) = let fewer : j ≡ n = omega arith in ap (λ (k : ℕ). take k l) fewer
 
-  pub drop-least : (l : List A) (n m : ℕ) → length l ≡ m → drop (min n m) l ≡ drop n l
-  drop-least l n m e = go (decLe m n)
+  pub drop-least : (l : List A) (j n m : ℕ) → length l ≡ m → j ≡ min n m → drop j l ≡ drop n l
+  drop-least l j n m e end = go (decLe m n)
     where
-      go : Dec (m ≤ n) → drop (min n m) l ≡ drop n l
+      go : Dec (m ≤ n) → drop j l ≡ drop n l
       go (yes h) =
-          let least : length l ≤ min n m = omega arith in
+          let least : length l ≤ j = omega arith in
           let all : length l ≤ n = omega arith in
           drop-of-length-le l least ∙ sym (drop-of-length-le l all)
-      go (no h) = let fewer : min n m ≡ n = omega arith in ap (λ (k : ℕ). drop k l) fewer
+      go (no h) = let fewer : j ≡ n = omega arith in ap (λ (k : ℕ). drop k l) fewer
 
 module _ {A B : Type 0} (f : A → B) where
   pub any-map : (p : B → Bool) (l : List A) → any p (map f l) ≡ any (λ x. p (f x)) l
@@ -100,5 +100,5 @@ module _ {A : Type 0} (f : A → A) where
   changed-drop (suc j) [] = refl
   changed-drop (suc j) (x ∷ xs) = changed-drop j xs
 
-  pub changed-least : (l : List A) (n m : ℕ) → length l ≡ m → changed (min n m) l ≡ changed n l
-  changed-least l n m e = ap₂ (λ (a b : List A). map f a ++ b) (take-least l n m e) (drop-least l n m e)
+  pub changed-least : (l : List A) (j n m : ℕ) → length l ≡ m → j ≡ min n m → changed j l ≡ changed n l
+  changed-least l j n m e end = ap₂ (λ (a b : List A). map f a ++ b) (take-least l j n m e end) (drop-least l j n m e end)

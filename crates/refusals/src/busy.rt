@@ -16,7 +16,7 @@ use station::Station;
 // A report refused by each of 1 to 7.
 pub(crate) fn lines() {
     let busy = busy_station();
-    group(30);
+    group(35);
     answer_of(busy, report(8, 0, 0, 0, 0));
     answer_of(busy, clock(0));
     answer_of(busy, occupied(2, 0));

@@ -1,7 +1,8 @@
-// Document 01, "The numbers it answers": bad input gets its number and nothing changes, through the
-// compiled library. A line for each group of the table crates/demands/specs/Refusals.antt, with the
-// same cases in the same order, and one more on a busy station. Proofs do not cover the compiler's
-// back end; this does. The file stdout is typed from the document.
+// Document 01, "The numbers it answers": bad input gets its number and nothing changes, and input
+// just within the limits gets 0, through the compiled library. A line for each group of the table
+// crates/demands/specs/Refusals.antt, with the same cases in the same order, and one more on a busy
+// station. Proofs do not cover the compiler's back end; this does. The file stdout is typed from the
+// document.
 mod busy;
 mod comparing;
 mod forms;
@@ -14,6 +15,7 @@ mod printing;
 mod refusing;
 mod sitings;
 mod states;
+mod within;
 
 fn main() {
     forms::lines();
@@ -23,5 +25,6 @@ fn main() {
     handed::lines();
     sitings::lines();
     order::lines();
+    within::lines();
     busy::lines();
 }

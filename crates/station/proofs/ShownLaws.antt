@@ -56,4 +56,4 @@ pub digit : (number : ℕ) (l : List Track) (n j : ℕ) (occupied : Bool)
     → j ≡ min n 4
     → occupied ≡ any (λ t. islandAt t number .occupied) (take j l)
     → _≡_ {A = ℕ} (cond occupied 0 1) (cond (any (λ t. islandAt t number .occupied) (take n l)) 0 1)
-digit number l n j occupied len end e = rw (e, end, take-least l n 4 len)
+digit number l n j occupied len end e = rw (e, take-least l j n 4 len end)

@@ -62,8 +62,7 @@ returns : tie.Need-returns Inv-loop μ-loop
 unfolding obstructed
 returns c = let s = c .before .before .before .before .args .station in
     let len : length (s .tracks) ≡ 4 = search (needs, counted) in
-    let end : c .before .loop .j ≡ min (s .settings .tracks) 4 = omega arith in
-    let all = ap (λ (n : ℕ). take n (s .tracks)) end ∙ take-least (s .tracks) (s .settings .tracks) 4 len in
+    let all = take-least (s .tracks) (c .before .loop .j) (s .settings .tracks) 4 len (omega arith) in
     ap₂ _||_ (c .before .loop .inv .1 .0) (c .before .loop .inv .1 .1) ∙ ap (λ (l : List Track). any someOccupied l || any someFailed l) all
 
 pub is-obstructed-spec : {M : Type 1} → statement M

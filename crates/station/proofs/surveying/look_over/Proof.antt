@@ -65,10 +65,7 @@ loop-again c = let k = c .before .before .before .before .before in
 returns : tie.Need-returns Inv-loop μ-loop
 returns c = let a = c .before .before .before .args in
     let len : length (a .t2) ≡ 4 = search (needs, counted) in
-    let end : c .before .loop .j ≡ min (a .settings .tracks) 4 = omega arith in
-    c .before .loop .inv .1 .1
-    ∙ ap (λ (n : ℕ). surveyOf (a .settings) (take n (a .t2))) end
-    ∙ ap (surveyOf (a .settings)) (take-least (a .t2) (a .settings .tracks) 4 len)
+    c .before .loop .inv .1 .1 ∙ ap (surveyOf (a .settings)) (take-least (a .t2) (c .before .loop .j) (a .settings .tracks) 4 len (omega arith))
 
 pub look-over-spec : {M : Type 1} → statement M
 look-over-spec =

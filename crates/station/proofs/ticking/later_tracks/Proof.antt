@@ -74,10 +74,7 @@ loop-again c = let k = c .before .before .before .before .loop in
 returns : tie.Need-returns Inv-loop μ-loop
 returns c = let a = c .before .before .before .args in
     let len : length (a .tracks) ≡ 4 = search (needs, counted) in
-    let end : c .before .loop .j ≡ min (a .settings .tracks) 4 = omega arith in
-    c .before .loop .inv .1 .1
-    ∙ ap (λ (m : ℕ). changed (laterTrack (a .n)) m (a .tracks)) end
-    ∙ changed-least (laterTrack (a .n)) (a .tracks) (a .settings .tracks) 4 len
+    c .before .loop .inv .1 .1 ∙ changed-least (laterTrack (a .n)) (a .tracks) (c .before .loop .j) (a .settings .tracks) 4 len (omega arith)
 
 pub later-tracks-spec : {M : Type 1} → statement M
 later-tracks-spec =

@@ -70,9 +70,8 @@ loop-again c = let k = c .before .before .before .before .loop in
 returns : tie.Need-returns Inv-loop μ-loop
 returns c = let a = c .before .before .before .args in
     let len : length (a .t2) ≡ 4 = search (needs, counted) in
-    let end : c .before .loop .j ≡ min (a .settings .tracks) 4 = omega arith in
     subst (λ (l : List Track). Timed (a .settings) l (c .before .loop .table))
-    (ap (λ (n : ℕ). take n (a .t2)) end ∙ take-least (a .t2) (a .settings .tracks) 4 len)
+    (take-least (a .t2) (c .before .loop .j) (a .settings .tracks) 4 len (omega arith))
     (c .before .loop .inv .1)
 
 pub timetable-of-spec : {M : Type 1} → statement M
