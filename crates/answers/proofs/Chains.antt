@@ -1,6 +1,6 @@
 -- Tests in an order: what the first that refuses gives, and what is left when one passes.
 -- Assumes nothing.
-use Prim.Native.Nat.{ℕ}
+use Prim.Native.Nat.{ℕ, _<_}
 use mathlib.Core.Path.{_≡_, refl, sym, ap, _∙_}
 use mathlib.Core.Bool.{Bool, true, false, cond}
 use borrow.Author.Tests.{eq-eqb, eqb-false, eqb-true, ne-eqb}
@@ -41,3 +41,30 @@ both-done x y e = go (eqb x 0) refl e
     go : (b : Bool) → eqb x 0 ≡ b → cond b y x ≡ 0 → (x ≡ 0) × (y ≡ 0)
     go true q z = (eqb-true x 0 q, z)
     go false q z = absurd (eqb-false x 0 q z)
+
+-- an answer of 0 says that a test that would refuse did not
+pub passed : (n m : ℕ) (t : Bool) → (n ≡ 0 → ⊥) → (n if t then m) ≡ 0 → (t ≡ false) × (m ≡ 0)
+unfolding _if_then_
+passed n m true h e = absurd (h e)
+passed n m false h e = (refl, e)
+
+-- of two outcomes, the one for an answer of 0, and the other
+pub where-done : {A : Type 0} (n : ℕ) (x y : A) → n ≡ 0 → cond (eqb n 0) x y ≡ x
+where-done {A} n x y e = ap {B = A} (λ (b : Bool). cond b x y) (eq-eqb n 0 e)
+
+pub where-refused : {A : Type 0} (n : ℕ) (x y : A) → (n ≡ 0 → ⊥) → cond (eqb n 0) x y ≡ y
+where-refused {A} n x y h = ap {B = A} (λ (b : Bool). cond b x y) (ne-eqb n 0 h)
+
+-- a bound on each number is a bound on the answer
+pub test-below : (k n m : ℕ) (t : Bool) → n < k → m < k → (n if t then m) < k
+unfolding _if_then_
+test-below k n m true h g = h
+test-below k n m false h g = g
+
+pub group-below : (k x y : ℕ) → x < k → y < k → (x ▷ y) < k
+unfolding _▷_
+group-below k x y h g = go (eqb x 0)
+  where
+    go : (b : Bool) → cond b y x < k
+    go true = g
+    go false = h

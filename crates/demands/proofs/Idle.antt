@@ -1,11 +1,18 @@
 -- Document 01, "How firm each statement is": "Five idle versions have to be shut out. One that refuses everything, and one that always shows aspect 5,
 -- break demand 2 at C2. One that keeps the station unchanged breaks it at C2. One that follows the first report and then coasts breaks it at C3. A
--- made-up number of entries read breaks demand 2's reading back." Here are four of them, each at the row where it falls; the fifth, a made-up count,
--- comes with the register.
-use mathlib.Core.Path.{_≡_, refl}
+-- made-up number of entries read breaks demand 2's reading back." Here are the five: four each at the row where it falls, and the made-up number at two
+-- registers, of no entry and of one.
+use Prim.Native.Nat.{ℕ, _≤_}
+use native.Mathlib.Omega.{arith}
+use mathlib.Core.Path.{_≡_, refl, ap}
+use lib.ListN.{replicate}
 use Rattle.demands.proofs.Computed.{computed}
 use Rattle.demands.specs.Machine.{refusesAll, alwaysFive, keepsStation, coasts}
+use Rattle.demands.specs.ReadBack.{Filling, ReadsBack, Room, madeUp}
 use Rattle.demands.specs.Table.{firstWrong, table}
+use Rattle.islands.specs.Islands.{withinLimits}
+use Rattle.register.specs.declared.Reading.{Reading}
+use Rattle.station.specs.Station.{leastSettings}
 
 -- One that refuses everything breaks demand 2 at C2,
 pub refuses-all : firstWrong (table refusesAll) ≡ 2
@@ -26,3 +33,19 @@ keeps-station = refl
 pub coasting : firstWrong (table coasts) ≡ 3
 unfolding computed
 coasting = refl
+
+-- A made-up number of entries read breaks demand 2's reading back: a register may have none, and it may have one.
+abbrev twoRegisters : Filling
+twoRegisters =
+    record { settings = leastSettings; lent = replicate 24 0; report = λ n. record { kind = 7; a = 0; b = 0; spare = 0; value = 0 } }
+
+hasRoom : (n : ℕ) → n ≤ 1 → Room twoRegisters n
+unfolding withinLimits
+hasRoom n h = record { settings = refl; few = omega arith; lent = omega arith }
+
+pub made-up-count : (count : ℕ) → ((f : Filling) (n : ℕ) → Room f n → ReadsBack (madeUp count) f n) → ⊥
+made-up-count count reads =
+    let counted : (n : ℕ) → n ≤ 1 → count ≡ n = λ n h. ap (λ (r : Reading). r .count) (reads twoRegisters n (hasRoom n h) .whole) in
+    let none = counted 0 (omega arith) in
+    let one = counted 1 (omega arith) in
+    omega arith

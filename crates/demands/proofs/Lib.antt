@@ -5,5 +5,9 @@ pub mod Computed
 pub mod HouseRows
 pub mod Idle
 pub mod Once
+pub mod ReadBack
 pub mod Refusals
+pub mod RegisterBytes
+pub mod RegisterLaws
+pub mod ReplayLaws
 pub mod Rows

@@ -12,6 +12,7 @@ pub use changing::with_hold;
 pub use changing::with_track;
 use islands::Settings;
 use islands::Track;
+pub use making::least_station;
 pub use making::make;
 pub use making::settings_answer;
 pub use showing::aspect;

@@ -1,7 +1,7 @@
 // Document 01, "What the station is": how a station is made.
 ghost use mathlib.Core.Path.{_≡_};
 ghost use Rattle.islands.specs.Islands.{freeTrack};
-ghost use Rattle.station.specs.Station.{made, settingsAnswer};
+ghost use Rattle.station.specs.Station.{leastSettings, made, settingsAnswer};
 ghost use Rattle.station.specs.With.{freshStation};
 use crate::Made;
 use crate::Station;
@@ -30,6 +30,16 @@ pub fn make(settings: Settings) -> Made
             station: fresh_station(settings),
         };
     }
+    Made {
+        answer,
+        station: least_station(),
+    }
+}
+
+// A fresh station of the least settings: what is returned where there is no other to return.
+pub fn least_station() -> Station
+    ensures { λ r. ⌜ r ≡ freshStation leastSettings ⌝ }
+{
     let least = Settings {
         tracks: 1,
         t1: 1,
@@ -38,10 +48,7 @@ pub fn make(settings: Settings) -> Made
         t4: 1,
         t5: 2,
     };
-    Made {
-        answer,
-        station: fresh_station(least),
-    }
+    fresh_station(least)
 }
 
 fn fresh_station(settings: Settings) -> Station

@@ -14,11 +14,11 @@ fresh-station-requires c κs = search needs
 returns : tie.Need-returns
 returns c = made-of _ _ _ (c .before .before .settings-answer .ensures) (c .before .if1 .taken) (c .fresh-station .ensures)
 
-fresh-station-requires-2 : tie.Need-fresh-station-requires-2
-fresh-station-requires-2 c κs = search needs
+least-station-requires : tie.Need-least-station-requires
+least-station-requires c κs = search needs
 
 returns-2 : tie.Need-returns-2
-returns-2 c = made-least _ _ _ (c .before .before .settings-answer .ensures) (c .before .if1 .left) (c .fresh-station2 .ensures)
+returns-2 c = made-least _ _ _ (c .before .before .settings-answer .ensures) (c .before .if1 .left) (c .least-station .ensures)
 
 pub make-spec : {M : Type 1} → statement M
 make-spec =
@@ -27,5 +27,5 @@ make-spec =
     settings-answer-requires
     fresh-station-requires
     returns
-    fresh-station-requires-2
+    least-station-requires
     returns-2)

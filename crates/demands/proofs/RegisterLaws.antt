@@ -1,0 +1,167 @@
+-- Document 01, "The register": "Starting writes the header and touches no other byte. Appending at entry k writes those 8 bytes only, and does not read
+-- earlier entries." And "a report refused by 1 to 7 is entered too, with its number, and the station stays". "The numbers it answers": apart from that
+-- entry, refusals write to no buffer.
+-- Assumes nothing.
+use Prim.Native.Nat.{ℕ, suc, _+_, _≤_}
+use native.Mathlib.Decide.{ℕ-discrete}
+use native.Mathlib.Omega.{arith}
+use mathlib.Core.Path.{_≡_, refl, sym, ap, subst, _∙_}
+use mathlib.Core.Bool.{Bool, true, false, true≢false, cond, _||_}
+use mathlib.Core.List.{List}
+use borrow.Author.Tests.{eq-eqb, ltb-false, ne-eqb}
+use lib.Dec.{eqb, leb, ltb}
+use lib.ListN.{length, take, drop}
+use Rattle.answers.proofs.Chains.{both-done, group-passes, group-refuses}
+use Rattle.answers.specs.FirstRefusal.{_if_then_, _▷_}
+use Rattle.demands.proofs.RegisterBytes.{put-after, put-before, put-length, put-there, same-head, same-settings}
+use Rattle.islands.specs.declared.Settings.{Settings}
+use Rattle.register.specs.Answers.{appendAnswer, headAnswer, startAnswer, unfit}
+use Rattle.register.specs.Layout.{entryAt, entryOf, entryStart, header}
+use Rattle.register.specs.Writing.{appended, appendedBytes, newEntry, put, started}
+use Rattle.reports.proofs.Taking.{after-refused}
+use Rattle.reports.specs.Answer.{answerOf}
+use Rattle.reports.specs.Taken.{stationAfter}
+use Rattle.reports.specs.declared.Report.{Report}
+use Rattle.reports.specs.declared.Taken.{Taken}
+use Rattle.station.specs.Aspect.{aspectOf}
+use Rattle.station.specs.Station.{settingsAnswer}
+use Rattle.station.specs.declared.Station.{Station}
+
+-- ---- tests in an order
+
+-- a test that gives its number, and gave 0, does not hold
+pub passed : (n : ℕ) (t : Bool) (rest : ℕ) → (suc n if t then rest) ≡ 0 → (t ≡ false) × (rest ≡ 0)
+unfolding _if_then_
+passed n true rest e = let z : ⊥ = omega arith in absurd z
+passed n false rest e = (refl, e)
+
+-- neither of two tests holds
+neither : (p q : Bool) → p || q ≡ false → (p ≡ false) × (q ≡ false)
+neither true q e = absurd (true≢false e)
+neither false q e = (refl, e)
+
+-- ---- starting
+
+start-room : (c : Settings) (b : List ℕ) → startAnswer c b ≡ 0 → 0 + length (header c) ≤ length b
+unfolding startAnswer header
+start-room c b z = ltb-false (length b) 16 (passed 11 _ 0 (both-done (settingsAnswer c) _ z .1) .0)
+
+start-writes : (c : Settings) (b : List ℕ) → startAnswer c b ≡ 0 → started c b ≡ put 0 (header c) b
+unfolding started
+start-writes c b z = ap (λ (t : Bool). cond t (put 0 (header c) b) b) (eq-eqb (startAnswer c b) 0 z)
+
+-- Refused, it writes nothing.
+pub start-refused : (c : Settings) (b : List ℕ) → (startAnswer c b ≡ 0 → ⊥) → started c b ≡ b
+unfolding started
+start-refused c b z = ap (λ (t : Bool). cond t (put 0 (header c) b) b) (ne-eqb (startAnswer c b) 0 z)
+
+-- Starting writes the header,
+pub start-header : (c : Settings) (b : List ℕ) → startAnswer c b ≡ 0 → take 16 (started c b) ≡ header c
+unfolding header
+start-header c b z = ap (take 16) (start-writes c b z) ∙ put-there 0 (header c) b (start-room c b z)
+
+-- and touches no other byte.
+pub start-elsewhere : (c : Settings) (b : List ℕ) → (drop 16 (started c b) ≡ drop 16 b) × (length (started c b) ≡ length b)
+unfolding header
+start-elsewhere c b = go (ℕ-discrete (startAnswer c b) 0)
+  where
+    go : Dec (startAnswer c b ≡ 0) → (drop 16 (started c b) ≡ drop 16 b) × (length (started c b) ≡ length b)
+    go (yes z) = (
+      ap (drop 16) (start-writes c b z) ∙ put-after 0 (header c) b (start-room c b z),
+      ap length (start-writes c b z) ∙ put-length 0 (header c) b (start-room c b z),
+    )
+    go (no z) = (ap (drop 16) (start-refused c b z), ap length (start-refused c b z))
+
+-- ---- appending
+
+module _ (b : List ℕ) (k : ℕ) (s : Station) (r : Report) where
+  append-room : appendAnswer b k (s .settings) ≡ 0 → entryStart k + length (newEntry s r) ≤ length b
+  unfolding appendAnswer entryOf
+  append-room z =
+      let full : leb 8190 k || ltb (length b) (entryStart (k + 1)) ≡ false = passed 11 _ 0 (passed 7 _ _ (both-done (headAnswer b) _ z .1) .1) .0 in
+      let room : entryStart (k + 1) ≤ length b = ltb-false (length b) (entryStart (k + 1)) (neither (leb 8190 k) _ full .1) in
+      omega arith
+
+  append-writes : appendAnswer b k (s .settings) ≡ 0 → appendedBytes b k s r ≡ put (entryStart k) (newEntry s r) b
+  unfolding appendedBytes
+  append-writes z = ap (λ (t : Bool). cond t (put (entryStart k) (newEntry s r) b) b) (eq-eqb (appendAnswer b k (s .settings)) 0 z)
+
+  -- With 9, 10, 8 or 12 the report is not applied, and nothing is written.
+  pub append-refused : (appendAnswer b k (s .settings) ≡ 0 → ⊥)
+      → (appendedBytes b k s r ≡ b)
+      × (appended b k s r .station ≡ s)
+      × (appended b k s r .answer ≡ appendAnswer b k (s .settings))
+  unfolding appended appendedBytes
+  append-refused z =
+      let no = ne-eqb (appendAnswer b k (s .settings)) 0 z in (
+        ap (λ (t : Bool). cond t (put (entryStart k) (newEntry s r) b) b) no,
+        ap (λ (t : Bool). cond t (stationAfter s r) s) no,
+        sym (group-refuses (appendAnswer b k (s .settings)) _ (answerOf s r) refl z),
+      )
+
+  -- otherwise it is applied,
+  pub append-applies : appendAnswer b k (s .settings) ≡ 0 → appended b k s r ≡ record { answer = answerOf s r; station = stationAfter s r }
+  unfolding appended
+  append-applies z =
+      λ i.
+      record {
+        answer = sym (group-passes 0 (appendAnswer b k (s .settings)) _ (answerOf s r) (sym z) refl refl) i;
+        station = cond (eq-eqb (appendAnswer b k (s .settings)) 0 z i) (stationAfter s r) s;
+      }
+
+  -- and entered
+  pub append-enters : appendAnswer b k (s .settings) ≡ 0 → entryAt (appendedBytes b k s r) k ≡ newEntry s r
+  unfolding entryAt entryOf
+  append-enters z = ap (λ (l : List ℕ). take 8 (drop (entryStart k) l)) (append-writes z) ∙ put-there (entryStart k) (newEntry s r) b (append-room z)
+
+  -- a report refused by 1 to 7 too, with its number, and the station stays.
+  pub append-enters-refused : appendAnswer b k (s .settings) ≡ 0 → (answerOf s r ≡ 0 → ⊥)
+      → (appended b k s r .station ≡ s)
+      × (entryAt (appendedBytes b k s r) k ≡ entryOf r (answerOf s r) (aspectOf s))
+  append-enters-refused z n =
+      let stays = after-refused s r n in (
+        ap (λ (t : Taken). t .station) (append-applies z) ∙ stays,
+        append-enters z ∙ ap (λ (t : Station). entryOf r (answerOf s r) (aspectOf t)) stays,
+      )
+
+  -- Appending at entry k writes those 8 bytes only.
+  pub append-elsewhere :
+      (take (entryStart k) (appendedBytes b k s r) ≡ take (entryStart k) b)
+      × (drop (entryStart (k + 1)) (appendedBytes b k s r) ≡ drop (entryStart (k + 1)) b)
+      × (length (appendedBytes b k s r) ≡ length b)
+  unfolding entryOf
+  append-elsewhere = go (ℕ-discrete (appendAnswer b k (s .settings)) 0)
+    where
+      go : Dec (appendAnswer b k (s .settings) ≡ 0)
+          → (take (entryStart k) (appendedBytes b k s r) ≡ take (entryStart k) b)
+          × (drop (entryStart (k + 1)) (appendedBytes b k s r) ≡ drop (entryStart (k + 1)) b)
+          × (length (appendedBytes b k s r) ≡ length b)
+      go (yes z) =
+          let room = append-room z in
+          let next : entryStart k + 8 ≡ entryStart (k + 1) = omega arith in (
+            ap (take (entryStart k)) (append-writes z) ∙ put-before (entryStart k) (newEntry s r) b room,
+            ap (drop (entryStart (k + 1))) (append-writes z)
+                ∙ subst (λ (n : ℕ). drop n (put (entryStart k) (newEntry s r) b) ≡ drop n b) next (put-after (entryStart k) (newEntry s r) b room),
+            ap length (append-writes z) ∙ put-length (entryStart k) (newEntry s r) b room,
+          )
+      go (no z) = let same = append-refused z .0 in (ap (take (entryStart k)) same, ap (drop (entryStart (k + 1))) same, ap length same)
+
+-- ---- Appending does not read earlier entries.
+
+module _ (b b′ : List ℕ) (k : ℕ) (s : Station) (r : Report) (e : take 16 b ≡ take 16 b′) (l : length b ≡ length b′) where
+  same-answer : (c : Settings) → appendAnswer b k c ≡ appendAnswer b′ k c
+  unfolding appendAnswer
+  same-answer c =
+      λ i. same-head b b′ e l i ▷ 8 if unfit (same-settings b b′ e i) c then 12 if leb 8190 k || ltb (l i) (entryStart (k + 1)) then 0
+
+  pub append-apart : appended b k s r ≡ appended b′ k s r
+  unfolding appended
+  append-apart =
+      λ i.
+      record {
+        answer = same-answer (s .settings) i ▷ answerOf s r;
+        station = cond (eqb (same-answer (s .settings) i) 0) (stationAfter s r) s;
+      }
+
+  pub append-entry-apart : appendAnswer b k (s .settings) ≡ 0 → entryAt (appendedBytes b k s r) k ≡ entryAt (appendedBytes b′ k s r) k
+  append-entry-apart z = append-enters b k s r z ∙ sym (append-enters b′ k s r (sym (same-answer (s .settings)) ∙ z))

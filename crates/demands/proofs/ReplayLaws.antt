@@ -1,0 +1,123 @@
+-- Document 01, "The numbers it answers": reading, stepping and handing back are tested for 9, 10, 11, 12 and 8 alike; 13 names the first entry whose
+-- answer or aspect is not what the replay gives; stepping reads the first k entries only. "Easy to get wrong": keeping rows that follow the live
+-- station; a row stepped back to does not follow what came later.
+-- Assumes nothing.
+use Prim.Native.Nat.{ℕ, zero, suc, _-_, _/_, _%_, _<_}
+use native.Mathlib.Decide.{ℕ-discrete}
+use native.Mathlib.Omega.{arith}
+use mathlib.Core.Path.{_≡_, refl, sym, subst, _∙_}
+use mathlib.Core.Bool.{Bool, true, false, cond, not}
+use mathlib.Core.List.{List}
+use borrow.Author.Tests.{not-false}
+use lib.Dec.{eqb, ltb}
+use lib.ListN.{length, take}
+use Rattle.answers.proofs.Chains.{both-done, group-passes, group-refuses}
+use Rattle.answers.specs.FirstRefusal.{_if_then_, _▷_}
+use Rattle.demands.proofs.RegisterBytes.{same-entry, same-first, same-head, same-settings}
+use Rattle.demands.proofs.RegisterLaws.{passed}
+use Rattle.register.specs.Answers.{lengthAnswer, registerAnswer}
+use Rattle.register.specs.Layout.{entryAt, entryStart, reportIn}
+use Rattle.register.specs.Reading.{entryAnswer, readAnswer, readingOf, stepAnswer, stepOf}
+use Rattle.register.specs.Replay.{after, asReplayed, firstWrong}
+use Rattle.reports.specs.Taken.{stationAfter}
+use Rattle.station.specs.Station.{leastSettings, made, settingsAnswer}
+use Rattle.station.specs.With.{freshStation}
+
+-- ---- Reading: 9, 10, 11, 12, 8, 13. Handing back: 9, 10, 11, 12, 8, 14. Stepping: the same.
+
+pub agree : (b : List ℕ) (k : ℕ) → (registerAnswer b ≡ 0 → ⊥)
+    → (readAnswer b ≡ registerAnswer b)
+    × (stepAnswer b k ≡ registerAnswer b)
+    × (entryAnswer b k ≡ registerAnswer b)
+unfolding readAnswer stepAnswer entryAnswer
+agree b k h = (sym (first _), sym (first _), sym (first _))
+  where
+    first : (y : ℕ) → registerAnswer b ≡ (registerAnswer b ▷ y)
+    first y = group-refuses (registerAnswer b) (registerAnswer b) y refl h
+
+-- ---- 13 names the first such entry, counted from 1
+
+abbrev pub right : List ℕ → ℕ → Bool
+right b i = asReplayed (entryAt b i) (after b i)
+
+-- below the next number is below this one, or this one
+pub below-next : (P : ℕ → Type 0) (n : ℕ) → ((i : ℕ) → i < n → P i) → P n → (i : ℕ) → i < suc n → P i
+below-next P n f p i h = go (ℕ-discrete i n)
+  where
+    go : Dec (i ≡ n) → P i
+    go (yes e) = subst P (sym e) p
+    go (no e) = f i (omega arith)
+
+-- 0 where there is none
+pub none-wrong : (b : List ℕ) (n : ℕ) → firstWrong b n ≡ 0 → (i : ℕ) → i < n → right b i ≡ true
+unfolding firstWrong
+none-wrong b zero e i h = let z : ⊥ = omega arith in absurd z
+none-wrong b (suc n) e i h =
+    let each = both-done (firstWrong b n) _ e in
+    below-next (λ i. right b i ≡ true) n (none-wrong b n (each .0)) (not-false (right b n) (passed n _ 0 (each .1) .0)) i h
+
+-- j names the first wrong one of n
+abbrev pub Names : List ℕ → ℕ → ℕ → Type 0
+Names b n j = (j < n) × (right b j ≡ false) × ((i : ℕ) → i < j → right b i ≡ true)
+
+pub names-first : (b : List ℕ) (n j : ℕ) → firstWrong b n ≡ suc j → Names b n j
+unfolding firstWrong _if_then_
+names-first b zero j e = let z : ⊥ = omega arith in absurd z
+names-first b (suc n) j e = go (names-first b n j) (ℕ-discrete (firstWrong b n) 0)
+  where
+    new : firstWrong b n ≡ 0 → (t : Bool) → right b n ≡ t → (suc n if not t then 0) ≡ suc j → Names b (suc n) j
+    new z true q e = let no : ⊥ = omega arith in absurd no
+    new z false q e =
+        let same : n ≡ j = omega arith in
+        (omega arith, subst (λ (i : ℕ). right b i ≡ false) same q, λ i h. none-wrong b n z i (omega arith))
+
+    go : (firstWrong b n ≡ suc j → Names b n j) → Dec (firstWrong b n ≡ 0) → Names b (suc n) j
+    go f (yes z) = new z (right b n) refl (group-passes 0 (firstWrong b n) _ _ (sym z) refl refl ∙ e)
+    go f (no z) =
+        let (less, wrong, before) = f (group-refuses (firstWrong b n) _ _ refl z ∙ e) in
+        (omega arith, wrong, before)
+
+-- ---- stepping, from the first k entries and the length alone
+
+module _ (b b′ : List ℕ) where
+  after-apart : (k : ℕ) → take (entryStart k) b ≡ take (entryStart k) b′ → after b k ≡ after b′ k
+  unfolding after
+  after-apart zero e = λ i. made (same-settings b b′ e i) .station
+  after-apart (suc k) e =
+      let before = same-first (entryStart k) (entryStart (suc k)) b b′ (omega arith) e in
+      λ i. stationAfter (after-apart k before i) (reportIn (same-entry (entryStart (suc k)) k b b′ e (omega arith) i))
+
+  wrong-apart : (k : ℕ) → take (entryStart k) b ≡ take (entryStart k) b′ → firstWrong b k ≡ firstWrong b′ k
+  unfolding firstWrong
+  wrong-apart zero e = refl
+  wrong-apart (suc k) e =
+      let before = same-first (entryStart k) (entryStart (suc k)) b b′ (omega arith) e in
+      λ i. wrong-apart k before i ▷ suc k if not (asReplayed (same-entry (entryStart (suc k)) k b b′ e (omega arith) i) (after-apart k before i)) then 0
+
+  register-apart : take 16 b ≡ take 16 b′ → length b ≡ length b′ → registerAnswer b ≡ registerAnswer b′
+  unfolding registerAnswer lengthAnswer
+  register-apart e l =
+      λ i.
+      same-head b b′ e l i
+      ▷ (11 if not (eqb ((l i - 16) % 8) 0) then 12 if ltb 8190 ((l i - 16) / 8) then 0)
+      ▷ settingsAnswer (same-settings b b′ e i)
+
+  step-answer-apart : (k : ℕ) → take (entryStart k) b ≡ take (entryStart k) b′ → length b ≡ length b′ → stepAnswer b k ≡ stepAnswer b′ k
+  unfolding stepAnswer
+  step-answer-apart k e l =
+      λ i.
+      register-apart (same-first 16 (entryStart k) b b′ (omega arith) e) l i
+      ▷ (14 if ltb ((l i - 16) / 8) k then 0)
+      ▷ 13 if not (eqb (wrong-apart k e i) 0) then 0
+
+  pub step-apart : (k : ℕ) → take (entryStart k) b ≡ take (entryStart k) b′ → length b ≡ length b′ → stepOf b k ≡ stepOf b′ k
+  unfolding stepOf readingOf
+  step-apart k e l =
+      let answer = step-answer-apart k e l in
+      λ i.
+      record {
+        answer = answer i;
+        entry = cond (eqb (answer i) 13) (wrong-apart k e i) 0;
+        count = cond (eqb (answer i) 0) k 0;
+        station = cond (eqb (answer i) 0) (after-apart k e i) (freshStation leastSettings);
+      }

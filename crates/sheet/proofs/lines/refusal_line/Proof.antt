@@ -1,0 +1,96 @@
+-- `refusal_line`: with the answer 13 the entry is named (`naming`), with any other it is not (`refusal`).
+-- Assumes nothing.
+use borrow.Author.Needs.{needs}
+use Rattle.sheet.proofs.Placing.{written-as}
+use Rattle.sheet.proofs.Spelling.{naming, refusal}
+use Rattle.sheet.proofs.lines.refusal_line.Statement.{statement}
+use Rattle.sheet.proofs.lines.refusal_line.Tie as tie
+
+number-text-requires : tie.Need-number-text-requires
+number-text-requires c κs = search needs
+
+slice-aggregate-line : tie.Need-slice-aggregate-line
+slice-aggregate-line c = search needs
+
+array-share-prefix-number : tie.Need-array-share-prefix-number
+array-share-prefix-number c = search needs
+
+slice-aggregate-line-2 : tie.Need-slice-aggregate-line-2
+slice-aggregate-line-2 c = search needs
+
+slice-aggregate-line-3 : tie.Need-slice-aggregate-line-3
+slice-aggregate-line-3 c = search needs
+
+slice-aggregate-line-4 : tie.Need-slice-aggregate-line-4
+slice-aggregate-line-4 c = search needs
+
+line-requires : tie.Need-line-requires
+line-requires c κs = search needs
+
+same-length : tie.Need-same-length
+same-length c = search needs
+
+returns : tie.Need-returns
+returns c =
+    let other = c .before .before .before .before .before .before .before .before in
+    let given = other .before .before .before .before .args in
+    written-as (given .out .now) (refusal (given .answer) (given .entry) (other .if1 .taken) (other .before .number-text .ensures .1 .1)) (c .before .before .line .ensures)
+
+number-text-requires-2 : tie.Need-number-text-requires-2
+number-text-requires-2 c κs = search needs
+
+slice-aggregate-line-5 : tie.Need-slice-aggregate-line-5
+slice-aggregate-line-5 c = search needs
+
+array-share-prefix-number-2 : tie.Need-array-share-prefix-number-2
+array-share-prefix-number-2 c = search needs
+
+slice-aggregate-line-6 : tie.Need-slice-aggregate-line-6
+slice-aggregate-line-6 c = search needs
+
+slice-aggregate-line-7 : tie.Need-slice-aggregate-line-7
+slice-aggregate-line-7 c = search needs
+
+array-share-prefix-named : tie.Need-array-share-prefix-named
+array-share-prefix-named c = search needs
+
+slice-aggregate-line-8 : tie.Need-slice-aggregate-line-8
+slice-aggregate-line-8 c = search needs
+
+line-requires-2 : tie.Need-line-requires-2
+line-requires-2 c κs = search needs
+
+same-length-2 : tie.Need-same-length-2
+same-length-2 c = search needs
+
+returns-2 : tie.Need-returns-2
+returns-2 c =
+    let named = c .before .before .before .before .before .before .before .before in
+    let same = named .before .before in
+    let given = same .before .before .before .before .args in
+    written-as (given .out .now) (naming (given .answer) (given .entry) (same .if1 .left) (same .before .number-text .ensures .1 .1) (named .number-text2 .ensures .1 .1))
+    (c .before .before .line2 .ensures)
+
+pub refusal-line-spec : {M : Type 1} → statement M
+refusal-line-spec =
+    tie.close
+    (tie.spec
+    number-text-requires
+    slice-aggregate-line
+    array-share-prefix-number
+    slice-aggregate-line-2
+    slice-aggregate-line-3
+    slice-aggregate-line-4
+    line-requires
+    same-length
+    returns
+    number-text-requires-2
+    slice-aggregate-line-5
+    array-share-prefix-number-2
+    slice-aggregate-line-6
+    slice-aggregate-line-7
+    array-share-prefix-named
+    slice-aggregate-line-8
+    line-requires-2
+    same-length-2
+    returns-2)

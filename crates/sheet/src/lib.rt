@@ -1,0 +1,17 @@
+// The lines of a sheet, and the sheet of a register, as bytes in a buffer that the caller lends.
+mod lines;
+mod text;
+
+pub use lines::refusal_line;
+pub use lines::row_line;
+pub use lines::title_line;
+use station::ZoneDigits;
+
+// What a row of a sheet shows: its entry's number, the five zone digits in island order, the nine
+// output bits, VF first, and the answer.
+pub struct RowFields {
+    pub entry: u64,
+    pub zones: ZoneDigits,
+    pub outputs: u16,
+    pub answer: u8,
+}

@@ -1,0 +1,101 @@
+// The lines of document 01, "The matrix printer".
+ghost use mathlib.Core.List.{_++_};
+ghost use mathlib.Core.Path.{_≡_};
+ghost use Rattle.sheet.specs.Lines.{outputText, refusalLine, rowLine, title, zoneText};
+ghost use Rattle.sheet.specs.Text.{lengthWritten, space, written, zeroOrOne};
+use crate::RowFields;
+use crate::text::line;
+use crate::text::number_text;
+use answers::NOT_REPLAYED;
+use station::ZoneDigits;
+
+// Writes the title line at the start of out, and answers its length. Where it does not fit,
+// nothing is written and the answer is 0.
+pub fn title_line(out: &mut [u8]) -> usize
+    ensures { λ r. ⌜ r ≡ lengthWritten title (now (out .entry)) ⌝ }
+    ensures { λ _. ⌜ now (out .exit) ≡ written title (now (out .entry)) ⌝ }
+{
+    line(out, b"entry", b" zones ", b"outputs ", b"answer")
+}
+
+// Writes a row's line, as title_line does.
+pub fn row_line(out: &mut [u8], fields: RowFields) -> usize
+    ensures { λ r. ⌜ r ≡ lengthWritten (rowLine fields) (now (out .entry)) ⌝ }
+    ensures { λ _. ⌜ now (out .exit) ≡ written (rowLine fields) (now (out .entry)) ⌝ }
+{
+    let mut entry = [0u8; 20];
+    let entry_length = number_text(fields.entry, &mut entry);
+    let digits = fields.zones;
+    let zones = zone_column(digits);
+    let outputs = output_column(fields.outputs);
+    let mut answer = [0u8; 20];
+    let answer_length = number_text(fields.answer as u64, &mut answer);
+    line(
+        out,
+        &entry[..entry_length],
+        &zones,
+        &outputs,
+        &answer[..answer_length],
+    )
+}
+
+// Writes the one line of a register that cannot be read, as title_line does. The entry is named
+// where the answer is 13.
+pub fn refusal_line(out: &mut [u8], answer: u8, entry: u64) -> usize
+    ensures { λ r. ⌜ r ≡ lengthWritten (refusalLine answer entry) (now (out .entry)) ⌝ }
+    ensures { λ _. ⌜ now (out .exit) ≡ written (refusalLine answer entry) (now (out .entry)) ⌝ }
+{
+    let mut number = [0u8; 20];
+    let length = number_text(answer as u64, &mut number);
+    if answer != NOT_REPLAYED {
+        return line(out, b"refused ", &number[..length], b"", b"");
+    }
+    let mut named = [0u8; 20];
+    let named_length = number_text(entry, &mut named);
+    line(
+        out,
+        b"refused ",
+        &number[..length],
+        b" at ",
+        &named[..named_length],
+    )
+}
+
+// The five zone digits, with the spaces on both sides.
+fn zone_column(zones: ZoneDigits) -> [u8; 7]
+    ensures { λ r. ⌜ r ≡ space ++ zoneText zones ++ space ⌝ }
+{
+    [
+        b' ',
+        digit(zones[0] != 0),
+        digit(zones[1] != 0),
+        digit(zones[2] != 0),
+        digit(zones[3] != 0),
+        digit(zones[4] != 0),
+        b' ',
+    ]
+}
+
+// The nine output digits from VF to S4, with the space after them.
+fn output_column(outputs: u16) -> [u8; 10]
+    ensures { λ r. ⌜ r ≡ outputText outputs ++ space ⌝ }
+{
+    [
+        digit(outputs % 2 == 1),
+        digit(outputs / 2 % 2 == 1),
+        digit(outputs / 4 % 2 == 1),
+        digit(outputs / 8 % 2 == 1),
+        digit(outputs / 16 % 2 == 1),
+        digit(outputs / 32 % 2 == 1),
+        digit(outputs / 64 % 2 == 1),
+        digit(outputs / 128 % 2 == 1),
+        digit(outputs / 256 % 2 == 1),
+        b' ',
+    ]
+}
+
+fn digit(one: bool) -> u8
+    ensures { λ r. ⌜ r ≡ zeroOrOne one ⌝ }
+{
+    if one { b'1' } else { b'0' }
+}
