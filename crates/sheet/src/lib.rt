@@ -15,3 +15,6 @@ pub struct RowFields {
     pub outputs: u16,
     pub answer: u8,
 }
+
+// Room for any sheet: the title, 27 bytes, and 8,190 rows of at most 23.
+pub type SheetText = [u8; 188397];

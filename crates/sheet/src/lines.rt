@@ -1,6 +1,7 @@
 // The lines of document 01, "The matrix printer".
 ghost use mathlib.Core.List.{_++_};
 ghost use mathlib.Core.Path.{_≡_};
+ghost use Rattle.io.specs.Counts.{Counts};
 ghost use Rattle.sheet.specs.Lines.{outputText, refusalLine, rowLine, title, zoneText};
 ghost use Rattle.sheet.specs.Text.{lengthWritten, space, written, zeroOrOne};
 use crate::RowFields;
@@ -10,10 +11,12 @@ use answers::NOT_REPLAYED;
 use station::ZoneDigits;
 
 // Writes the title line at the start of out, and answers its length. Where it does not fit,
-// nothing is written and the answer is 0.
+// nothing is written and the answer is 0. (That the length counts bytes of out follows from the
+// rest; it is said so that a caller's &out[..length] needs no proof.)
 pub fn title_line(out: &mut [u8]) -> usize
     ensures { λ r. ⌜ r ≡ lengthWritten title (now (out .entry)) ⌝ }
     ensures { λ _. ⌜ now (out .exit) ≡ written title (now (out .entry)) ⌝ }
+    ensures { λ r. ⌜ Counts r (now (out .exit)) ⌝ }
 {
     line(out, b"entry", b" zones ", b"outputs ", b"answer")
 }
@@ -22,6 +25,7 @@ pub fn title_line(out: &mut [u8]) -> usize
 pub fn row_line(out: &mut [u8], fields: RowFields) -> usize
     ensures { λ r. ⌜ r ≡ lengthWritten (rowLine fields) (now (out .entry)) ⌝ }
     ensures { λ _. ⌜ now (out .exit) ≡ written (rowLine fields) (now (out .entry)) ⌝ }
+    ensures { λ r. ⌜ Counts r (now (out .exit)) ⌝ }
 {
     let mut entry = [0u8; 20];
     let entry_length = number_text(fields.entry, &mut entry);
@@ -44,6 +48,7 @@ pub fn row_line(out: &mut [u8], fields: RowFields) -> usize
 pub fn refusal_line(out: &mut [u8], answer: u8, entry: u64) -> usize
     ensures { λ r. ⌜ r ≡ lengthWritten (refusalLine answer entry) (now (out .entry)) ⌝ }
     ensures { λ _. ⌜ now (out .exit) ≡ written (refusalLine answer entry) (now (out .entry)) ⌝ }
+    ensures { λ r. ⌜ Counts r (now (out .exit)) ⌝ }
 {
     let mut number = [0u8; 20];
     let length = number_text(answer as u64, &mut number);

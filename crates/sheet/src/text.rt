@@ -2,8 +2,9 @@
 ghost use mathlib.Core.List.{_++_};
 ghost use mathlib.Core.Path.{_≡_};
 ghost use Prim.Native.Nat.{_+_, _≤_};
-ghost use lib.ListN.{drop, length, take};
+ghost use lib.ListN.{length, take};
 ghost use Rattle.io.specs.Counts.{Counts};
+ghost use Rattle.register.specs.Writing.{put as Writing·put};
 ghost use Rattle.sheet.specs.Text.{decimal, lengthWritten, lineFeed, written};
 
 // Puts a number's decimal digits at the start of text, and answers how many there are.
@@ -19,7 +20,7 @@ pub(crate) fn number_text(number: u64, text: &mut [u8; 20]) -> usize
 fn put(out: &mut [u8], at: usize, text: &[u8]) -> usize
     requires { ⌜ at + length (now text) ≤ length (now out) ⌝ }
     ensures { λ r. ⌜ r ≡ at + length (now (text .entry)) ⌝ }
-    ensures { λ _. ⌜ now (out .exit) ≡ take at (now (out .entry)) ++ (now (text .entry) ++ drop (at + length (now (text .entry))) (now (out .entry))) ⌝ }
+    ensures { λ _. ⌜ now (out .exit) ≡ Writing·put at (now (text .entry)) (now (out .entry)) ⌝ }
 {
     bytes::copy(text, &mut out[at..]);
     at + text.len()
@@ -38,6 +39,7 @@ pub(crate) fn line(
     requires { ⌜ length (now first) + length (now second) + length (now third) + length (now fourth) ≤ 99 ⌝ }
     ensures { λ r. ⌜ r ≡ lengthWritten (now (first .entry) ++ now (second .entry) ++ now (third .entry) ++ now (fourth .entry) ++ lineFeed) (now (out .entry)) ⌝ }
     ensures { λ _. ⌜ now (out .exit) ≡ written (now (first .entry) ++ now (second .entry) ++ now (third .entry) ++ now (fourth .entry) ++ lineFeed) (now (out .entry)) ⌝ }
+    ensures { λ r. ⌜ Counts r (now (out .exit)) ⌝ }
 {
     let length = first.len() + second.len() + third.len() + fourth.len() + 1;
     if out.len() < length {

@@ -4,7 +4,7 @@ use native.Mathlib.Omega.{arith}
 use lib.ListN.{length-append}
 use borrow.Author.Needs.{needs}
 use Rattle.sheet.specs.Text.{lineFeed}
-use Rattle.sheet.proofs.Placing.{fitted, further, start, unfitted}
+use Rattle.sheet.proofs.Placing.{fitted, further, start, told, unfitted}
 use Rattle.sheet.proofs.text.line.Statement.{statement}
 use Rattle.sheet.proofs.text.line.Tie as tie
 
@@ -21,7 +21,7 @@ add-length-4 : tie.Need-add-length-4
 add-length-4 c = search needs
 
 returns : tie.Need-returns
-returns c = unfitted _ _ (simp length-append (omega arith))
+returns c = told _ _ (unfitted _ _ (simp length-append (omega arith)))
 
 put-requires : tie.Need-put-requires
 put-requires c κs = search needs
@@ -56,7 +56,7 @@ returns-2 c =
     let two = further (given .second .now) one (at2 .put2 .ensures) in
     let three = further (given .third .now) two (at3 .put3 .ensures) in
     let four = further (given .fourth .now) three (at4 .put4 .ensures) in
-    fitted (simp length-append (omega arith)) (further lineFeed four (at5 .put5 .ensures))
+    told _ _ (fitted (simp length-append (omega arith)) (further lineFeed four (at5 .put5 .ensures)))
 
 pub line-spec : {M : Type 1} → statement M
 line-spec =

@@ -3,7 +3,7 @@
 use mathlib.Core.Path.{refl}
 use native.Mathlib.Omega.{arith}
 use borrow.Author.Needs.{needs}
-use Rattle.sheet.proofs.Placing.{copied}
+use Rattle.register.proofs.Placing.{copied}
 use Rattle.sheet.proofs.text.put.Statement.{statement}
 use Rattle.sheet.proofs.text.put.Tie as tie
 
@@ -28,7 +28,7 @@ same-length c = search needs
 returns : tie.Need-returns
 returns c =
     let given = c .before .before .before .before .before .before .args in
-    (refl, copied (given .at) (given .text .now) (given .out .now) (omega arith) (c .before .before .copy .ensures .1))
+    (refl, copied (given .at) (given .text .now) (given .out .now) _ (c .before .before .copy .ensures .1))
 
 pub put-spec : {M : Type 1} → statement M
 put-spec =
