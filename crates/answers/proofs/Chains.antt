@@ -1,8 +1,9 @@
 -- Tests in an order: what the first that refuses gives, and what is left when one passes.
 -- Assumes nothing.
-use Prim.Native.Nat.{ℕ, _<_}
+use Prim.Native.Nat.{ℕ, suc, _<_}
+use native.Mathlib.Omega.{arith}
 use mathlib.Core.Path.{_≡_, refl, sym, ap, _∙_}
-use mathlib.Core.Bool.{Bool, true, false, cond}
+use mathlib.Core.Bool.{Bool, true, false, true≢false, cond, _||_}
 use borrow.Author.Tests.{eq-eqb, eqb-false, eqb-true, ne-eqb}
 use lib.Dec.{eqb}
 use Rattle.answers.specs.FirstRefusal.{_if_then_, _▷_}
@@ -43,10 +44,15 @@ both-done x y e = go (eqb x 0) refl e
     go false q z = absurd (eqb-false x 0 q z)
 
 -- an answer of 0 says that a test that would refuse did not
-pub passed : (n m : ℕ) (t : Bool) → (n ≡ 0 → ⊥) → (n if t then m) ≡ 0 → (t ≡ false) × (m ≡ 0)
+pub passed : (n : ℕ) (t : Bool) (rest : ℕ) → (suc n if t then rest) ≡ 0 → (t ≡ false) × (rest ≡ 0)
 unfolding _if_then_
-passed n m true h e = absurd (h e)
-passed n m false h e = (refl, e)
+passed n true rest e = let z : ⊥ = omega arith in absurd z
+passed n false rest e = (refl, e)
+
+-- neither of two tests holds
+pub neither : (p q : Bool) → p || q ≡ false → (p ≡ false) × (q ≡ false)
+neither true q e = absurd (true≢false e)
+neither false q e = (refl, e)
 
 -- of two outcomes, the one for an answer of 0, and the other
 pub where-done : {A : Type 0} (n : ℕ) (x y : A) → n ≡ 0 → cond (eqb n 0) x y ≡ x

@@ -35,48 +35,6 @@ agree b k h = (sym (first _), sym (first _), sym (first _))
     first : (y : ℕ) → registerAnswer b ≡ (registerAnswer b ▷ y)
     first y = group-refuses (registerAnswer b) (registerAnswer b) y refl h
 
--- ---- 13 names the first such entry, counted from 1
-
-abbrev pub right : List ℕ → ℕ → Bool
-right b i = asReplayed (entryAt b i) (after b i)
-
--- below the next number is below this one, or this one
-pub below-next : (P : ℕ → Type 0) (n : ℕ) → ((i : ℕ) → i < n → P i) → P n → (i : ℕ) → i < suc n → P i
-below-next P n f p i h = go (ℕ-discrete i n)
-  where
-    go : Dec (i ≡ n) → P i
-    go (yes e) = subst P (sym e) p
-    go (no e) = f i (omega arith)
-
--- 0 where there is none
-pub none-wrong : (b : List ℕ) (n : ℕ) → firstWrong b n ≡ 0 → (i : ℕ) → i < n → right b i ≡ true
-unfolding firstWrong
-none-wrong b zero e i h = let z : ⊥ = omega arith in absurd z
-none-wrong b (suc n) e i h =
-    let each = both-done (firstWrong b n) _ e in
-    below-next (λ i. right b i ≡ true) n (none-wrong b n (each .0)) (not-false (right b n) (passed n _ 0 (each .1) .0)) i h
-
--- j names the first wrong one of n
-abbrev pub Names : List ℕ → ℕ → ℕ → Type 0
-Names b n j = (j < n) × (right b j ≡ false) × ((i : ℕ) → i < j → right b i ≡ true)
-
-pub names-first : (b : List ℕ) (n j : ℕ) → firstWrong b n ≡ suc j → Names b n j
-unfolding firstWrong _if_then_
-names-first b zero j e = let z : ⊥ = omega arith in absurd z
-names-first b (suc n) j e = go (names-first b n j) (ℕ-discrete (firstWrong b n) 0)
-  where
-    new : firstWrong b n ≡ 0 → (t : Bool) → right b n ≡ t → (suc n if not t then 0) ≡ suc j → Names b (suc n) j
-    new z true q e = let no : ⊥ = omega arith in absurd no
-    new z false q e =
-        let same : n ≡ j = omega arith in
-        (omega arith, subst (λ (i : ℕ). right b i ≡ false) same q, λ i h. none-wrong b n z i (omega arith))
-
-    go : (firstWrong b n ≡ suc j → Names b n j) → Dec (firstWrong b n ≡ 0) → Names b (suc n) j
-    go f (yes z) = new z (right b n) refl (group-passes 0 (firstWrong b n) _ _ (sym z) refl refl ∙ e)
-    go f (no z) =
-        let (less, wrong, before) = f (group-refuses (firstWrong b n) _ _ refl z ∙ e) in
-        (omega arith, wrong, before)
-
 -- ---- stepping, from the first k entries and the length alone
 
 module _ (b b′ : List ℕ) where

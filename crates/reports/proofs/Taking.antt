@@ -1,18 +1,20 @@
 -- What is made of a report: the island that it names, and the answer with the station after it.
 -- Assumes nothing.
-use Prim.Native.Nat.{ℕ}
+use Prim.Native.Nat.{ℕ, _<_}
+use native.Mathlib.Omega.{arith}
 use mathlib.Core.Path.{_≡_, sym, ap, ap₂, _∙_}
 use mathlib.Core.Bool.{Bool, cond}
 use borrow.Author.Tests.{eq-eqb, ne-eqb}
+use Rattle.answers.proofs.Chains.{group-below, test-below}
 use Rattle.islands.specs.Mark.{withIsland}
 use Rattle.islands.specs.declared.Island.{Island}
 use Rattle.islands.specs.declared.Track.{Track}
-use Rattle.reports.specs.Answer.{answerOf}
+use Rattle.reports.specs.Answer.{answerOf, formAnswer, placeAnswer, stateAnswer}
 use Rattle.reports.specs.Reports.{acted, kindOf, namedTrack, withNamed}
 use Rattle.reports.specs.Taken.{stationAfter, taken}
 use Rattle.reports.specs.declared.Report.{Report}
 use Rattle.reports.specs.declared.Taken.{Taken}
-use Rattle.station.specs.Station.{trackAt, withTrack}
+use Rattle.station.specs.Station.{settingsAnswer, trackAt, withTrack}
 use Rattle.station.specs.declared.Station.{Station}
 
 -- the station with what becomes of the island that the report names
@@ -45,3 +47,13 @@ module _ (s : Station) (r : Report) (n : ℕ) (e : n ≡ answerOf s r) where
   pub taken-refused : (n ≡ 0 → ⊥) → _≡_ {A = Taken} (record { answer = n; station = s }) (taken s r)
   unfolding taken
   taken-refused z = λ i. record { answer = e i; station = sym (after-refused s r (λ q. z (e ∙ q))) i }
+
+-- a report's answer is 0 to 8
+pub answer-below : (s : Station) (r : Report) → answerOf s r < 9
+unfolding answerOf settingsAnswer formAnswer placeAnswer stateAnswer
+answer-below s r =
+    group-below 9 _ _ (test-below 9 8 0 _ (omega arith) (omega arith))
+    (group-below 9 _ _ (test-below 9 1 _ _ (omega arith) (test-below 9 2 0 _ (omega arith) (omega arith)))
+    (group-below 9 _ _
+    (test-below 9 3 _ _ (omega arith) (test-below 9 5 _ _ (omega arith) (test-below 9 4 0 _ (omega arith) (omega arith))))
+    (test-below 9 6 _ _ (omega arith) (test-below 9 7 0 _ (omega arith) (omega arith)))))

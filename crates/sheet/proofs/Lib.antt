@@ -2,3 +2,4 @@ pub mod Decimals
 pub mod Lengths
 pub mod Placing
 pub mod Spelling
+pub mod Sheets

@@ -38,6 +38,10 @@ further {x} {b} y w e =
       bytes = e .1 ∙ rw (w .past, w .bytes) (joined x y b);
     }
 
+-- the buffer keeps its length
+pub still-long : {x b b′ : List ℕ} {at : ℕ} → length x ≤ length b → Begun x b at b′ → length b′ ≡ length b
+still-long {x} {b} h w = ap length (w .bytes) ∙ simp (length-append, length-drop) (omega arith)
+
 -- where the whole fits
 pub fitted :
     {text b b′ : List ℕ} {at : ℕ} → length text ≤ length b → Begun text b at b′
@@ -70,6 +74,13 @@ told text b {b′} {r} e = (e .0, (e .1, (within, counts r b′ within)))
 
     counts : (n : ℕ) (l : List ℕ) → n ≤ length l → n ≡ length (take n l)
     counts n l h = sym (length-take-le n l h)
+
+-- where it is known to fit
+pub fit : (text b : List ℕ) {b′ : List ℕ} {r : ℕ} → length text ≤ length b → Told text b r b′ → (r ≡ length text) × (b′ ≡ begun text b)
+unfolding written lengthWritten
+fit text b h t =
+    let yes = le-leb (length text) (length b) h in
+    (t .0 ∙ ap (λ (q : Bool). cond q (length text) 0) yes, t .1 .0 ∙ ap (λ (q : Bool). cond q (begun text b) b) yes)
 
 -- what is said of a text is said of the line that it is
 pub written-as : (b : List ℕ) {text line b′ : List ℕ} {r : ℕ} → text ≡ line → Told text b r b′ → Told line b r b′

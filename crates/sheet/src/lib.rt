@@ -1,10 +1,12 @@
 // The lines of a sheet, and the sheet of a register, as bytes in a buffer that the caller lends.
 mod lines;
+mod printing;
 mod text;
 
 pub use lines::refusal_line;
 pub use lines::row_line;
 pub use lines::title_line;
+pub use printing::print;
 use station::ZoneDigits;
 
 // What a row of a sheet shows: its entry's number, the five zone digits in island order, the nine

@@ -4,15 +4,16 @@
 use Prim.Native.Nat.{ℕ, min}
 use mathlib.Core.Path.{_≡_, refl}
 use mathlib.Core.Bool.{Bool, true, false, cond, not, _||_}
-use mathlib.Core.List.{List}
+use mathlib.Core.List.{List, [], _∷_, map}
 use lib.Dec.{ltb}
-use lib.ListN.{length, take}
+use lib.ListN.{length, replicate, take}
 use Rattle.answers.specs.FirstRefusal.{_if_then_}
 use Rattle.islands.proofs.Below.{take-least}
 use Rattle.islands.specs.Islands.{islandAt, withinLimits}
 use Rattle.islands.specs.Lists.{any}
 use Rattle.islands.specs.declared.Track.{Track}
 use Rattle.station.specs.Aspect.{aspectOf, greatestRisk}
+use Rattle.station.specs.Shown.{zoneOccupied, zonesOf}
 use Rattle.station.specs.Station.{live}
 use Rattle.station.specs.Survey.{risky, surveyOf}
 use Rattle.station.specs.declared.Station.{Station}
@@ -57,3 +58,12 @@ pub digit : (number : ℕ) (l : List Track) (n j : ℕ) (occupied : Bool)
     → occupied ≡ any (λ t. islandAt t number .occupied) (take j l)
     → _≡_ {A = ℕ} (cond occupied 0 1) (cond (any (λ t. islandAt t number .occupied) (take n l)) 0 1)
 digit number l n j occupied len end e = rw (e, take-least l j n 4 len end)
+
+-- there are five zone digits
+pub zones-five : (s : Station) → length (zonesOf s) ≡ 5
+unfolding zonesOf
+zones-five s = go (withinLimits (s .settings))
+  where
+    go : (t : Bool) → length {A = ℕ} (cond t (map (λ k. cond (zoneOccupied s k) 0 1) (0 ∷ 1 ∷ 2 ∷ 3 ∷ 4 ∷ [])) (replicate 5 0)) ≡ 5
+    go true = refl
+    go false = refl
