@@ -14,10 +14,10 @@ use Rattle.answers.specs.FirstRefusal.{_if_then_, _▷_}
 use Rattle.demands.proofs.ApartTracks.{settings-stay}
 use Rattle.demands.proofs.RegisterBytes.{begun-head, begun-settings, entry-answer, entry-aspect, entry-report, first-entry, same-entry, same-first}
 use Rattle.demands.proofs.RegisterLaws.{append-applies, append-elsewhere, append-enters, start-elsewhere, start-header}
-use Rattle.demands.proofs.ReplayLaws.{below-next, right}
 use Rattle.demands.specs.ReadBack.{Appends, Filling, ReadsBack, Room, answer, aspect, filled, ours, register, station, wholly}
 use Rattle.islands.specs.Islands.{withinLimits}
 use Rattle.islands.specs.declared.Settings.{Settings}
+use Rattle.register.proofs.FirstWrong.{below-next, right}
 use Rattle.register.specs.Answers.{appendAnswer, headAnswer, lengthAnswer, registerAnswer, sameSettings, startAnswer, unfit}
 use Rattle.register.specs.Layout.{entries, entryAt, entryOf, entryStart, header, reportIn, settingsIn}
 use Rattle.register.specs.Reading.{entryAnswer, handedBack, readAnswer, readOf, readingOf, stepAnswer, stepOf}

@@ -2,20 +2,21 @@
 -- earlier entries." And "a report refused by 1 to 7 is entered too, with its number, and the station stays". "The numbers it answers": apart from that
 -- entry, refusals write to no buffer.
 -- Assumes nothing.
-use Prim.Native.Nat.{ℕ, suc, _+_, _≤_}
+use Prim.Native.Nat.{ℕ, _+_, _≤_}
 use native.Mathlib.Decide.{ℕ-discrete}
 use native.Mathlib.Omega.{arith}
 use mathlib.Core.Path.{_≡_, refl, sym, ap, subst, _∙_}
-use mathlib.Core.Bool.{Bool, true, false, true≢false, cond, _||_}
+use mathlib.Core.Bool.{cond, _||_}
 use mathlib.Core.List.{List}
-use borrow.Author.Tests.{eq-eqb, ltb-false, ne-eqb}
+use borrow.Author.Tests.{ltb-false}
 use lib.Dec.{eqb, leb, ltb}
 use lib.ListN.{length, take, drop}
-use Rattle.answers.proofs.Chains.{both-done, group-passes, group-refuses}
+use Rattle.answers.proofs.Chains.{both-done, group-passes, group-refuses, passed, where-done, where-refused}
 use Rattle.answers.specs.FirstRefusal.{_if_then_, _▷_}
 use Rattle.demands.proofs.RegisterBytes.{put-after, put-before, put-length, put-there, same-head, same-settings}
 use Rattle.islands.specs.declared.Settings.{Settings}
-use Rattle.register.specs.Answers.{appendAnswer, headAnswer, startAnswer, unfit}
+use Rattle.register.proofs.Entering.{room}
+use Rattle.register.specs.Answers.{appendAnswer, startAnswer, unfit}
 use Rattle.register.specs.Layout.{entryAt, entryOf, entryStart, header}
 use Rattle.register.specs.Writing.{appended, appendedBytes, newEntry, put, started}
 use Rattle.reports.proofs.Taking.{after-refused}
@@ -27,19 +28,6 @@ use Rattle.station.specs.Aspect.{aspectOf}
 use Rattle.station.specs.Station.{settingsAnswer}
 use Rattle.station.specs.declared.Station.{Station}
 
--- ---- tests in an order
-
--- a test that gives its number, and gave 0, does not hold
-pub passed : (n : ℕ) (t : Bool) (rest : ℕ) → (suc n if t then rest) ≡ 0 → (t ≡ false) × (rest ≡ 0)
-unfolding _if_then_
-passed n true rest e = let z : ⊥ = omega arith in absurd z
-passed n false rest e = (refl, e)
-
--- neither of two tests holds
-neither : (p q : Bool) → p || q ≡ false → (p ≡ false) × (q ≡ false)
-neither true q e = absurd (true≢false e)
-neither false q e = (refl, e)
-
 -- ---- starting
 
 start-room : (c : Settings) (b : List ℕ) → startAnswer c b ≡ 0 → 0 + length (header c) ≤ length b
@@ -48,12 +36,12 @@ start-room c b z = ltb-false (length b) 16 (passed 11 _ 0 (both-done (settingsAn
 
 start-writes : (c : Settings) (b : List ℕ) → startAnswer c b ≡ 0 → started c b ≡ put 0 (header c) b
 unfolding started
-start-writes c b z = ap (λ (t : Bool). cond t (put 0 (header c) b) b) (eq-eqb (startAnswer c b) 0 z)
+start-writes c b z = where-done (startAnswer c b) (put 0 (header c) b) b z
 
 -- Refused, it writes nothing.
 pub start-refused : (c : Settings) (b : List ℕ) → (startAnswer c b ≡ 0 → ⊥) → started c b ≡ b
 unfolding started
-start-refused c b z = ap (λ (t : Bool). cond t (put 0 (header c) b) b) (ne-eqb (startAnswer c b) 0 z)
+start-refused c b z = where-refused (startAnswer c b) (put 0 (header c) b) b z
 
 -- Starting writes the header,
 pub start-header : (c : Settings) (b : List ℕ) → startAnswer c b ≡ 0 → take 16 (started c b) ≡ header c
@@ -76,15 +64,12 @@ start-elsewhere c b = go (ℕ-discrete (startAnswer c b) 0)
 
 module _ (b : List ℕ) (k : ℕ) (s : Station) (r : Report) where
   append-room : appendAnswer b k (s .settings) ≡ 0 → entryStart k + length (newEntry s r) ≤ length b
-  unfolding appendAnswer entryOf
-  append-room z =
-      let full : leb 8190 k || ltb (length b) (entryStart (k + 1)) ≡ false = passed 11 _ 0 (passed 7 _ _ (both-done (headAnswer b) _ z .1) .1) .0 in
-      let room : entryStart (k + 1) ≤ length b = ltb-false (length b) (entryStart (k + 1)) (neither (leb 8190 k) _ full .1) in
-      omega arith
+  unfolding entryOf
+  append-room z = omega (arith, room b k s r (appendAnswer b k (s .settings)) refl z .1)
 
   append-writes : appendAnswer b k (s .settings) ≡ 0 → appendedBytes b k s r ≡ put (entryStart k) (newEntry s r) b
   unfolding appendedBytes
-  append-writes z = ap (λ (t : Bool). cond t (put (entryStart k) (newEntry s r) b) b) (eq-eqb (appendAnswer b k (s .settings)) 0 z)
+  append-writes z = where-done (appendAnswer b k (s .settings)) (put (entryStart k) (newEntry s r) b) b z
 
   -- With 9, 10, 8 or 12 the report is not applied, and nothing is written.
   pub append-refused : (appendAnswer b k (s .settings) ≡ 0 → ⊥)
@@ -93,10 +78,10 @@ module _ (b : List ℕ) (k : ℕ) (s : Station) (r : Report) where
       × (appended b k s r .answer ≡ appendAnswer b k (s .settings))
   unfolding appended appendedBytes
   append-refused z =
-      let no = ne-eqb (appendAnswer b k (s .settings)) 0 z in (
-        ap (λ (t : Bool). cond t (put (entryStart k) (newEntry s r) b) b) no,
-        ap (λ (t : Bool). cond t (stationAfter s r) s) no,
-        sym (group-refuses (appendAnswer b k (s .settings)) _ (answerOf s r) refl z),
+      let answer = appendAnswer b k (s .settings) in (
+        where-refused answer (put (entryStart k) (newEntry s r) b) b z,
+        where-refused answer (stationAfter s r) s z,
+        sym (group-refuses answer _ (answerOf s r) refl z),
       )
 
   -- otherwise it is applied,
@@ -106,7 +91,7 @@ module _ (b : List ℕ) (k : ℕ) (s : Station) (r : Report) where
       λ i.
       record {
         answer = sym (group-passes 0 (appendAnswer b k (s .settings)) _ (answerOf s r) (sym z) refl refl) i;
-        station = cond (eq-eqb (appendAnswer b k (s .settings)) 0 z i) (stationAfter s r) s;
+        station = where-done (appendAnswer b k (s .settings)) (stationAfter s r) s z i;
       }
 
   -- and entered
