@@ -1,8 +1,10 @@
 -- A track's signs, from what is seen of each of its five islands.
 -- Assumes nothing.
+use Prim.Native.Nat.{ℕ}
 use mathlib.Core.Path.{_≡_, refl, sym, ap}
-use mathlib.Core.Bool.{Bool, true, false, _&&_, _||_, or-false}
+use mathlib.Core.Bool.{Bool, true, false, not, _&&_, _||_, or-false}
 use mathlib.Core.List.{[], _∷_}
+use lib.Dec.{leb}
 use Rattle.islands.proofs.Islands.{any-island}
 use Rattle.islands.specs.Ageing.{isWarning}
 use Rattle.islands.specs.Fresh.{held, freshApproaching, isAdvance, someFresh, present, freshNear, freshAdvance, someHeld}
@@ -44,3 +46,22 @@ signs-of-seen c i0 i1 i2 i3 i4 s0 s1 s2 s3 s4 e0 e1 e2 e3 e4 =
   where
     t : Track
     t = record { islands = i0 ∷ i1 ∷ i2 ∷ i3 ∷ i4 ∷ [] }
+
+-- ---- one island, free or occupied
+
+-- what an island adds, from whether it is occupied
+abbrev seenIf : ℕ → Bool → Island → Bool → Seen
+seenIf timer w i o =
+    record {
+      fresh = o && not (leb timer (i .age)) && (o && not (i .leaving));
+      held = o && leb timer (i .age);
+      present = o && not (i .leaving) || o && leb timer (i .age) || w && (o && i .leaving);
+    }
+
+pub seen-free : (timer : ℕ) (w : Bool) (i : Island) → i .occupied ≡ false
+    → _≡_ {A = Seen} (record { fresh = false; held = false; present = false }) (seenOf timer w i)
+seen-free timer true i e = ap (seenIf timer true i) (sym e)
+seen-free timer false i e = ap (seenIf timer false i) (sym e)
+
+pub seen-occupied : (timer : ℕ) (w : Bool) (i : Island) → i .occupied ≡ true → seenIf timer w i true ≡ seenOf timer w i
+seen-occupied timer w i e = ap (seenIf timer w i) (sym e)

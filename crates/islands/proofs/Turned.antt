@@ -214,15 +214,40 @@ track-older n t = ap (λ (l : List Island). record { islands = l }) (next (t .is
 
 -- ---- what the code makes of an island, and of five
 
-pub turn-made : (timer t5 : ℕ) (w : Bool) (i : Island) (h f o p l e : ℕ)
+-- an island's turns, from whether it is occupied
+abbrev turnsIf : ℕ → ℕ → Bool → Island → Bool → Turns
+turnsIf timer t5 w i o =
+    record {
+      fresh = cond (o && not (i .leaving)) (timer - i .age) 0;
+      present = cond (o && not (i .leaving) || w && (o && i .leaving)) 0 (cond o (timer - i .age) never);
+      late = cond (w && o) (t5 - i .age) never;
+    }
+
+pub turn-free : (timer t5 : ℕ) (w : Bool) (i : Island) → i .occupied ≡ false → noTurns ≡ turnsIn timer t5 w i
+turn-free timer t5 true i e = ap (turnsIf timer t5 true i) (sym e)
+turn-free timer t5 false i e = ap (turnsIf timer t5 false i) (sym e)
+
+pub turn-made : (timer t5 : ℕ) (w : Bool) (i : Island) (h f p l e : ℕ) → i .occupied ≡ true
     → h ≡ timer - i .age
-    → f ≡ cond (approaching i) h 0
-    → o ≡ cond (i .occupied) h never
-    → p ≡ cond (approaching i || w && goingAway i) 0 o
+    → f ≡ cond (not (i .leaving)) h 0
+    → p ≡ cond (not (i .leaving) || w && i .leaving) 0 h
     → l ≡ t5 - i .age
-    → e ≡ cond (w && i .occupied) l never
+    → e ≡ cond w l never
     → _≡_ {A = Turns} (record { fresh = f; present = p; late = e }) (turnsIn timer t5 w i)
-turn-made timer t5 w i h f o p l e eh ef eo ep el ee = rw (ef, ep, eo, ee, el, eh)
+turn-made timer t5 w i h f p l e o eh ef ep el ee = made ∙ ap (turnsIf timer t5 w i) (sym o)
+  where
+    late : (t : Bool) (n m : ℕ) → cond t n m ≡ cond (t && true) n m
+    late true n m = refl
+    late false n m = refl
+
+    made : _≡_ {A = Turns} (record { fresh = f; present = p; late = e }) (turnsIf timer t5 w i true)
+    made =
+        λ k.
+        record {
+          fresh = (ef ∙ ap (λ (n : ℕ). cond (not (i .leaving)) n 0) eh) k;
+          present = (ep ∙ ap (λ (n : ℕ). cond (not (i .leaving) || w && i .leaving) 0 n) eh) k;
+          late = (ee ∙ ap (λ (n : ℕ). cond w n never) el ∙ late w (t5 - i .age) never) k;
+        }
 
 pub turns-of-seen : (c : Settings) (i0 i1 i2 i3 i4 : Island) (t0 t1 t2 t3 t4 r4 r3 r2 r1 r0 : Turns)
     → t0 ≡ turnsIn (c .t1) (c .t5) false i0

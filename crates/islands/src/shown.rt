@@ -47,15 +47,22 @@ fn signs_of_five(c: Settings, i0: Island, i1: Island, i2: Island, i3: Island, i4
     }
 }
 
+// Most islands are free, and add nothing.
 fn see(timer: u16, warning: bool, island: Island) -> Seen
     ensures { λ r. ⌜ r ≡ seenOf timer warning island ⌝ }
 {
-    let approaching = island.occupied & !island.leaving;
-    let held = island.occupied & (timer <= island.age);
+    if !island.occupied {
+        return Seen {
+            fresh: false,
+            held: false,
+            present: false,
+        };
+    }
+    let held = timer <= island.age;
     Seen {
-        fresh: island.occupied & !(timer <= island.age) & approaching,
+        fresh: !held & !island.leaving,
         held,
-        present: approaching | held | (warning & (island.occupied & island.leaving)),
+        present: !island.leaving | held | (warning & island.leaving),
     }
 }
 

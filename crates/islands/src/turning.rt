@@ -45,16 +45,23 @@ fn turns_of_five(c: Settings, i0: Island, i1: Island, i2: Island, i3: Island, i4
     join(t0, join(t1, join(t2, join(t3, join(t4, none)))))
 }
 
+// Most islands are free, and never turn.
 fn turn(timer: u16, t5: u16, warning: bool, island: Island) -> Turns
     ensures { λ r. ⌜ r ≡ turnsIn timer t5 warning island ⌝ }
 {
-    let approaching = island.occupied & !island.leaving;
-    let counts = approaching | (warning & (island.occupied & island.leaving));
+    if !island.occupied {
+        return Turns {
+            fresh: 0,
+            present: NEVER,
+            late: NEVER,
+        };
+    }
+    let counts = !island.leaving | (warning & island.leaving);
     let held = left(timer, island.age);
     Turns {
-        fresh: choose(approaching, held, 0),
-        present: choose(counts, 0, choose(island.occupied, held, NEVER)),
-        late: choose(warning & island.occupied, left(t5, island.age), NEVER),
+        fresh: choose(!island.leaving, held, 0),
+        present: choose(counts, 0, held),
+        late: choose(warning, left(t5, island.age), NEVER),
     }
 }
 

@@ -1,14 +1,14 @@
--- The aspect as the code works it out, with one test for both lines that put a station out of service; and a zone's digit, once the tracks
--- have been gone through.
+-- The aspect as the code works it out, with one test for both lines that put a station out of service; and the zones, once the tracks have been
+-- gone through.
 -- Assumes nothing.
-use Prim.Native.Nat.{ℕ, min}
-use mathlib.Core.Path.{_≡_, refl}
-use mathlib.Core.Bool.{Bool, true, false, cond, not, _||_}
+use Prim.Native.Nat.{ℕ, _+_, _<_, min}
+use mathlib.Core.Path.{_≡_, refl, sym, ap, _∙_}
+use mathlib.Core.Bool.{Bool, true, false, cond, not, _||_, or-false, or-true}
 use mathlib.Core.List.{List, [], _∷_, map}
 use lib.Dec.{ltb}
-use lib.ListN.{length, replicate, take}
+use lib.ListN.{getD, length, replicate, take}
 use Rattle.answers.specs.FirstRefusal.{_if_then_}
-use Rattle.islands.proofs.Below.{take-least}
+use Rattle.islands.proofs.Below.{any-more, take-least}
 use Rattle.islands.specs.Islands.{islandAt, withinLimits}
 use Rattle.islands.specs.Lists.{any}
 use Rattle.islands.specs.declared.Track.{Track}
@@ -42,22 +42,42 @@ module _ (s : Station) where
     unfolding _if_then_
     out-of-service out = rw (← aspect-is, ← e, out)
 
+    -- in service, with a hold above 0
+    pub holding-on : not good || s .fault ≡ false → ltb 0 (s .hold) ≡ true → 3 ≡ aspectOf s
+    unfolding _if_then_
+    holding-on out hold =
+        rw (← aspect-is, ← e, out, hold, or-true)
+
+    -- or with none left
     pub in-service : (v : Survey) (risk : Bool) (aspect : ℕ)
         → not good || s .fault ≡ false
+        → ltb 0 (s .hold) ≡ false
         → v ≡ surveyOf (s .settings) (live s)
         → risk ≡ risky v
-        → aspect ≡ otherLines risk v
+        → aspect ≡ (3 if risk then 2 if v .near then 1 if v .ahead then 4 if v .held then 0)
         → aspect ≡ aspectOf s
     unfolding _if_then_
-    in-service v risk aspect out seen r lines = rw (lines, r, seen, ← aspect-is, ← e, out)
+    in-service v risk aspect out hold seen r lines = rw (lines, r, seen, ← aspect-is, ← e, out, hold, or-false)
 
--- A number above four names no more tracks than four.
-pub digit : (number : ℕ) (l : List Track) (n j : ℕ) (occupied : Bool)
-    → length l ≡ 4
-    → j ≡ min n 4
-    → occupied ≡ any (λ t. islandAt t number .occupied) (take j l)
-    → _≡_ {A = ℕ} (cond occupied 0 1) (cond (any (λ t. islandAt t number .occupied) (take n l)) 0 1)
-digit number l n j occupied len end e = rw (e, take-least l j n 4 len end)
+-- The zones that the first j tracks occupy, and with one track more. A number above four names no more tracks than four.
+abbrev pub occupiedBy : List Track → List Bool
+occupiedBy l = map (λ k. any (λ t. islandAt t k .occupied) l) (0 ∷ 1 ∷ 2 ∷ 3 ∷ 4 ∷ [])
+
+pub occupied-more : (l : List Track) (j : ℕ) (zones next : List Bool) → j < length l → zones ≡ occupiedBy (take j l)
+    → next ≡ map (λ k. getD zones k false || islandAt (getD l j (record { islands = [] })) k .occupied) (0 ∷ 1 ∷ 2 ∷ 3 ∷ 4 ∷ [])
+    → next ≡ occupiedBy (take (j + 1) l)
+occupied-more l j zones next h e en = en ∙ ap (λ (z : List Bool). map (λ k. getD z k false || islandAt (getD l j (record { islands = [] })) k .occupied) (0 ∷ 1 ∷ 2 ∷ 3 ∷ 4 ∷ [])) e
+    ∙ λ i. more 0 i ∷ more 1 i ∷ more 2 i ∷ more 3 i ∷ more 4 i ∷ []
+  where
+    more : (k : ℕ) → any (λ t. islandAt t k .occupied) (take j l) || islandAt (getD l j (record { islands = [] })) k .occupied ≡ any (λ t. islandAt t k .occupied) (take (j + 1) l)
+    more k = sym (any-more (λ t. islandAt t k .occupied) l j (record { islands = [] }) h)
+
+pub occupied-all : (l : List Track) (n j : ℕ) (zones : List Bool) → length l ≡ 4 → j ≡ min n 4 → zones ≡ occupiedBy (take j l) → zones ≡ occupiedBy (take n l)
+occupied-all l n j zones len end e = e ∙ ap occupiedBy (take-least l j n 4 len end)
+
+-- a zone's digit
+pub zone-digit : (zones due : List Bool) → zones ≡ due → (k n : ℕ) → n ≡ cond (getD zones k false) 0 1 → n ≡ cond (getD due k false) 0 1
+zone-digit zones due e k n h = h ∙ ap (λ (z : List Bool). cond (getD z k false) 0 1) e
 
 -- there are five zone digits
 pub zones-five : (s : Station) → length (zonesOf s) ≡ 5

@@ -1,8 +1,9 @@
 // What a station shows: its aspect, both heads, its zone digits and its tracks' presence.
 ghost use mathlib.Core.Path.{_≡_};
-ghost use mathlib.Core.Bool.{_&&_, cond};
+ghost use mathlib.Core.Bool.{_&&_, _||_, cond, false};
+ghost use mathlib.Core.List.{[], _∷_, map};
 ghost use lib.Dec.{ltb};
-ghost use lib.ListN.{take};
+ghost use lib.ListN.{getD, take};
 ghost use Rattle.answers.specs.FirstRefusal.{_if_then_};
 ghost use Rattle.islands.specs.Fresh.{present as Fresh·present};
 ghost use Rattle.islands.specs.Islands.{islandAt};
@@ -37,9 +38,13 @@ pub fn aspect(station: Station) -> u8
     if out {
         return OUT_OF_SERVICE;
     }
+    let holding = 0 < station.hold;
+    if holding {
+        return GREATEST_RISK;
+    }
     let tracks = station.tracks;
     let seen = look_over(settings, tracks);
-    let risk = risk_in(seen) | (0 < station.hold);
+    let risk = risk_in(seen);
     lines(risk, seen.near, seen.ahead, seen.held)
 }
 
@@ -82,29 +87,51 @@ pub fn zones(station: Station) -> ZoneDigits
     let tracks = station.tracks;
     let good = islands::within_limits(settings);
     if good {
+        let occupied = occupied_zones(settings, tracks);
         return [
-            zone(settings, tracks, 0),
-            zone(settings, tracks, 1),
-            zone(settings, tracks, 2),
-            zone(settings, tracks, 3),
-            zone(settings, tracks, 4),
+            digit(occupied[0]),
+            digit(occupied[1]),
+            digit(occupied[2]),
+            digit(occupied[3]),
+            digit(occupied[4]),
         ];
     }
     [0, 0, 0, 0, 0]
 }
 
-fn zone(settings: Settings, tracks: [Track; 4], number: u8) -> u8
-    ensures { λ r. ⌜ r ≡ cond (any (λ t. islandAt t number .occupied) (take (settings .tracks) tracks)) 0 1 ⌝ }
+fn digit(occupied: bool) -> u8
+    ensures { λ r. ⌜ r ≡ cond occupied 0 1 ⌝ }
+{
+    if occupied { 0 } else { 1 }
+}
+
+// Which zones some live track occupies. Each track is looked at once.
+fn occupied_zones(settings: Settings, tracks: [Track; 4]) -> [bool; 5]
+    ensures { λ r. ⌜ r ≡ map (λ k. any (λ t. islandAt t k .occupied) (take (settings .tracks) tracks)) (0 ∷ 1 ∷ 2 ∷ 3 ∷ 4 ∷ []) ⌝ }
 {
     let live = live_tracks(settings.tracks);
-    let mut occupied = false;
+    let mut occupied = [false, false, false, false, false];
     let mut j: usize = 0;
     while j < live {
-        let island = islands::island_at(tracks[j], number);
-        occupied = occupied | island.occupied;
+        let next = occupied_too(occupied, tracks[j]);
+        occupied = next;
         j += 1;
     }
-    if occupied { 0 } else { 1 }
+    occupied
+}
+
+// These zones, and those that the track occupies.
+fn occupied_too(zones: [bool; 5], track: Track) -> [bool; 5]
+    ensures { λ r. ⌜ r ≡ map (λ k. getD zones k false || islandAt track k .occupied) (0 ∷ 1 ∷ 2 ∷ 3 ∷ 4 ∷ []) ⌝ }
+{
+    let islands = track.islands;
+    [
+        zones[0] | islands[0].occupied,
+        zones[1] | islands[1].occupied,
+        zones[2] | islands[2].occupied,
+        zones[3] | islands[3].occupied,
+        zones[4] | islands[4].occupied,
+    ]
 }
 
 // Which tracks count for the greatest risk.

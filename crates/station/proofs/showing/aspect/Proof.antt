@@ -1,7 +1,8 @@
--- `aspect`: both tests that put the station out of service are one; otherwise the lines, over what `look_over` saw.
+-- `aspect`: both tests that put the station out of service are one; a hold above 0 is told before the tracks are looked over; otherwise the lines, over
+-- what `look_over` saw.
 -- Assumes nothing.
+use Rattle.station.proofs.ShownLaws.{holding-on, in-service, out-of-service}
 use borrow.Author.Needs.{needs}
-use Rattle.station.proofs.ShownLaws.{out-of-service, in-service}
 use Rattle.station.proofs.showing.aspect.Statement.{statement}
 use Rattle.station.proofs.showing.aspect.Tie as tie
 
@@ -10,6 +11,9 @@ within-limits-requires c κs = search needs
 
 returns : tie.Need-returns
 returns c = out-of-service _ _ (c .before .before .within-limits .ensures) (c .if1 .taken)
+
+returns-2 : tie.Need-returns-2
+returns-2 c = holding-on _ _ (c .before .before .before .before .within-limits .ensures) (c .before .before .if1 .left) (c .if2 .taken)
 
 look-over-requires : tie.Need-look-over-requires
 look-over-requires c κs = search needs
@@ -20,9 +24,8 @@ risk-in-requires c κs = search needs
 lines-requires : tie.Need-lines-requires
 lines-requires c κs = search needs
 
-returns-2 : tie.Need-returns-2
-returns-2 c = let k = c .before .before .before .before in
-    in-service _ _ (k .before .before .before .within-limits .ensures) _ _ _ (k .before .if1 .left) (c .before .before .before .look-over .ensures) (c .before .before .risk-in .ensures) (c .lines .ensures)
+returns-3 : tie.Need-returns-3
+returns-3 c = in-service _ _ (c .before .before .before .before .before .before .before .before .within-limits .ensures) _ _ _ (c .before .before .before .before .before .before .if1 .left) (c .before .before .before .before .if2 .left) (c .before .before .look-over .ensures) (c .before .risk-in .ensures) (c .lines .ensures)
 
 pub aspect-spec : {M : Type 1} → statement M
 aspect-spec =
@@ -30,7 +33,8 @@ aspect-spec =
     (tie.spec
     within-limits-requires
     returns
+    returns-2
     look-over-requires
     risk-in-requires
     lines-requires
-    returns-2)
+    returns-3)

@@ -1,35 +1,52 @@
--- `zones`: within limits, the five digits side by side.
+-- `zones`: within limits, a digit for each zone.
 -- Assumes nothing.
-use mathlib.Core.Path.{sym, _∙_}
+use Rattle.station.proofs.ShownLaws.{zone-digit}
 use mathlib.Core.List.{[], _∷_}
-use borrow.Author.Needs.{needs}
+use mathlib.Core.Path.{sym, _∙_}
 use Rattle.station.specs.Shown.{zonesOf}
+use borrow.Author.Needs.{needs}
 use Rattle.station.proofs.showing.zones.Statement.{statement}
 use Rattle.station.proofs.showing.zones.Tie as tie
 
 within-limits-requires : tie.Need-within-limits-requires
 within-limits-requires c κs = search needs
 
-zone-requires : tie.Need-zone-requires
-zone-requires c κs = search needs
+occupied-zones-requires : tie.Need-occupied-zones-requires
+occupied-zones-requires c κs = search needs
 
-zone-requires-2 : tie.Need-zone-requires-2
-zone-requires-2 c κs = search needs
+array-read-digit : tie.Need-array-read-digit
+array-read-digit c = search needs
 
-zone-requires-3 : tie.Need-zone-requires-3
-zone-requires-3 c κs = search needs
+digit-requires : tie.Need-digit-requires
+digit-requires c κs = search needs
 
-zone-requires-4 : tie.Need-zone-requires-4
-zone-requires-4 c κs = search needs
+array-read-digit-2 : tie.Need-array-read-digit-2
+array-read-digit-2 c = search needs
 
-zone-requires-5 : tie.Need-zone-requires-5
-zone-requires-5 c κs = search needs
+digit-requires-2 : tie.Need-digit-requires-2
+digit-requires-2 c κs = search needs
+
+array-read-digit-3 : tie.Need-array-read-digit-3
+array-read-digit-3 c = search needs
+
+digit-requires-3 : tie.Need-digit-requires-3
+digit-requires-3 c κs = search needs
+
+array-read-digit-4 : tie.Need-array-read-digit-4
+array-read-digit-4 c = search needs
+
+digit-requires-4 : tie.Need-digit-requires-4
+digit-requires-4 c κs = search needs
+
+array-read-digit-5 : tie.Need-array-read-digit-5
+array-read-digit-5 c = search needs
+
+digit-requires-5 : tie.Need-digit-requires-5
+digit-requires-5 c κs = search needs
 
 returns : tie.Need-returns
 unfolding zonesOf
-returns c = let k = c .before .before .before .before in
-    rw (sym (k .before .before .within-limits .ensures) ∙ k .before .if1 .taken)
-    (λ i. k .zone .ensures i ∷ c .before .before .before .zone2 .ensures i ∷ c .before .before .zone3 .ensures i ∷ c .before .zone4 .ensures i ∷ c .zone5 .ensures i ∷ [])
+returns c = rw (sym (c .before .before .before .before .before .before .before .within-limits .ensures) ∙ c .before .before .before .before .before .before .if1 .taken) (λ i. zone-digit _ _ (c .before .before .before .before .before .occupied-zones .ensures) 0 _ (c .before .before .before .before .digit .ensures) i ∷ zone-digit _ _ (c .before .before .before .before .before .occupied-zones .ensures) 1 _ (c .before .before .before .digit2 .ensures) i ∷ zone-digit _ _ (c .before .before .before .before .before .occupied-zones .ensures) 2 _ (c .before .before .digit3 .ensures) i ∷ zone-digit _ _ (c .before .before .before .before .before .occupied-zones .ensures) 3 _ (c .before .digit4 .ensures) i ∷ zone-digit _ _ (c .before .before .before .before .before .occupied-zones .ensures) 4 _ (c .digit5 .ensures) i ∷ [])
 
 returns-2 : tie.Need-returns-2
 unfolding zonesOf
@@ -40,10 +57,16 @@ zones-spec =
     tie.close
     (tie.spec
     within-limits-requires
-    zone-requires
-    zone-requires-2
-    zone-requires-3
-    zone-requires-4
-    zone-requires-5
+    occupied-zones-requires
+    array-read-digit
+    digit-requires
+    array-read-digit-2
+    digit-requires-2
+    array-read-digit-3
+    digit-requires-3
+    array-read-digit-4
+    digit-requires-4
+    array-read-digit-5
+    digit-requires-5
     returns
     returns-2)
