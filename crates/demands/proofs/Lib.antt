@@ -11,3 +11,4 @@ pub mod RegisterBytes
 pub mod RegisterLaws
 pub mod ReplayLaws
 pub mod Rows
+pub mod SheetBack

@@ -150,7 +150,7 @@ appends f n room =
 -- ---- the filled bytes, read
 
 module _ (f : Filling) (n : ℕ) (room : Room f n) where
-  filled-length : length (register f n) ≡ entryStart n
+  pub filled-length : length (register f n) ≡ entryStart n
   filled-length =
       let size = kept f n room .size in
       length-take-le (entryStart n) (filled f n .bytes) (omega (arith, room .lent))
@@ -158,10 +158,10 @@ module _ (f : Filling) (n : ℕ) (room : Room f n) where
   filled-head : take 16 (register f n) ≡ header (f .settings)
   filled-head = take-take 16 (entryStart n) (filled f n .bytes) (omega arith) ∙ kept f n room .head
 
-  filled-entry : (j : ℕ) → j < n → entryAt (register f n) j ≡ entryOf (f .report j) (answer f j) (aspect f j)
+  pub filled-entry : (j : ℕ) → j < n → entryAt (register f n) j ≡ entryOf (f .report j) (answer f j) (aspect f j)
   filled-entry j h = first-entry (entryStart n) j (filled f n .bytes) (omega arith) ∙ kept f n room .entry j h
 
-  filled-entries : entries (register f n) ≡ n
+  pub filled-entries : entries (register f n) ≡ n
   filled-entries = omega (arith, filled-length)
 
   filled-settings : settingsIn (register f n) ≡ f .settings
@@ -184,7 +184,7 @@ module _ (f : Filling) (n : ℕ) (room : Room f n) where
       ▷ length-done i
       ▷ (ap settingsAnswer filled-settings ∙ settings-done (f .settings) (room .settings)) i
 
-  replayed : (k : ℕ) → k ≤ n → after (register f n) k ≡ station f k
+  pub replayed : (k : ℕ) → k ≤ n → after (register f n) k ≡ station f k
   unfolding after station
   replayed zero h = ap (λ (c : Settings). made c .station) filled-settings
   replayed (suc k) h =
