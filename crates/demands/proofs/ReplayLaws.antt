@@ -2,7 +2,7 @@
 -- answer or aspect is not what the replay gives; stepping reads the first k entries only. "Easy to get wrong": keeping rows that follow the live
 -- station; a row stepped back to does not follow what came later.
 -- Assumes nothing.
-use Prim.Native.Nat.{ℕ, zero, suc, _-_, _/_, _%_, _<_}
+use Prim.Native.Nat.{ℕ, zero, suc, _-_, _/_, _%_}
 use native.Mathlib.Omega.{arith}
 use mathlib.Core.Path.{_≡_, refl, sym, ap, _∙_}
 use mathlib.Core.Bool.{Bool, true, false, cond, not}
@@ -16,7 +16,7 @@ use Rattle.demands.proofs.RegisterBytes.{same-entry, same-first, same-h
 use Rattle.register.proofs.FirstWrong.{Names, names-first}
 use Rattle.register.proofs.Replays.{below-thirteen}
 use Rattle.register.specs.Answers.{lengthAnswer, registerAnswer}
-use Rattle.register.specs.Layout.{entries, entryAt, entryStart, reportIn}
+use Rattle.register.specs.Layout.{entries, entryStart, reportIn}
 use Rattle.register.specs.Reading.{entryAnswer, readAnswer, readOf, readingOf, replayAnswer, stepAnswer, stepOf}
 use Rattle.register.specs.Replay.{after, asReplayed, firstWrong}
 use Rattle.reports.specs.Taken.{stationAfter}

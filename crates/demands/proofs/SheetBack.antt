@@ -11,7 +11,7 @@ use lib.ListN.{length}
 use Rattle.answers.proofs.Chains.{where-done}
 use Rattle.demands.proofs.ReadBack.{filled-entries, filled-entry, filled-length, read-back, replayed}
 use Rattle.demands.proofs.RegisterBytes.{entry-report}
-use Rattle.demands.specs.ReadBack.{Filling, Room, answer, aspect, lines, register, station}
+use Rattle.demands.specs.ReadBack.{Filling, Room, answer, aspect, lines, register}
 use Rattle.register.specs.Layout.{reportIn}
 use Rattle.register.specs.Reading.{readOf}
 use Rattle.register.specs.declared.Reading.{Reading}

@@ -1,13 +1,12 @@
 -- Texts placed in a buffer one after the other are the joined text at its start.
-use mathlib.Core.Path.{_≡_, refl, _∙_, sym, ap, ap₂, subst}
+use mathlib.Core.Path.{_≡_, refl, _∙_, sym, ap, subst}
 use mathlib.Core.Bool.{Bool, true, false, cond}
 use mathlib.Core.List.{List, [], _++_, append-assoc}
 use Prim.Native.Nat.{ℕ, _+_, _≤_, _<_}
 use native.Mathlib.Omega.{arith}
-use lib.Dec.{leb}
 use lib.ListN.{length, take, drop, length-append, length-drop}
 use lib.Seq.{drop-append-add, drop-drop, length-take-le, take-append-seam}
-use borrow.Author.Tests.{le-leb, leb-true, lt-leb}
+use borrow.Author.Tests.{le-leb, lt-leb}
 use Rattle.io.specs.Counts.{Counts}
 use Rattle.register.specs.Writing.{put}
 use Rattle.sheet.specs.Text.{fits, written, lengthWritten}

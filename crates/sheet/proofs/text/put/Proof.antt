@@ -1,7 +1,6 @@
 -- `put`: a text copied over the start of the part from `at` on is placed there (`copied`).
 -- Assumes nothing.
 use mathlib.Core.Path.{refl}
-use native.Mathlib.Omega.{arith}
 use borrow.Author.Needs.{needs}
 use Rattle.register.proofs.Placing.{copied}
 use Rattle.sheet.proofs.text.put.Statement.{statement}

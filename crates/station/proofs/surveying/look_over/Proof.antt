@@ -2,7 +2,7 @@
 -- Assumes nothing.
 use mathlib.Core.Path.{refl, ap, _∙_}
 use Rattle.islands.proofs.Below.{take-least}
-use Prim.Native.Nat.{ℕ, _≤_, _-_, min}
+use Prim.Native.Nat.{_≤_, _-_}
 use mathlib.Core.List.{[]}
 use mathlib.Core.Path.{_≡_}
 use lib.ListN.{length, take}

@@ -1,7 +1,7 @@
 -- `timetable_of`: after j tracks the timetable is that of the first j; a free track adds nothing.
 -- Assumes nothing.
-use Prim.Native.Nat.{ℕ, _+_, _≤_, _<_, _-_, min}
-use mathlib.Core.Path.{_≡_, subst, sym, ap, _∙_}
+use Prim.Native.Nat.{_+_, _≤_, _<_, _-_}
+use mathlib.Core.Path.{_≡_, subst, sym, _∙_}
 use mathlib.Core.Logic.{⊎-elim}
 use mathlib.Core.List.{List, []}
 use lib.ListN.{length, take}
