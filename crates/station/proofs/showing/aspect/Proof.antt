@@ -25,7 +25,11 @@ lines-requires : tie.Need-lines-requires
 lines-requires c κs = search needs
 
 returns-3 : tie.Need-returns-3
-returns-3 c = in-service _ _ (c .before .before .before .before .before .before .before .before .within-limits .ensures) _ _ _ (c .before .before .before .before .before .before .if1 .left) (c .before .before .before .before .if2 .left) (c .before .before .look-over .ensures) (c .before .risk-in .ensures) (c .lines .ensures)
+returns-3 c =
+    let told = c .before .before .before .before in
+    let tested = told .before .before in
+    in-service _ _ (tested .before .before .within-limits .ensures) _ _ _ (tested .if1 .left) (told .if2 .left) (c .before .before .look-over .ensures) (c .before .risk-in .ensures)
+    (c .lines .ensures)
 
 pub aspect-spec : {M : Type 1} → statement M
 aspect-spec =

@@ -46,7 +46,18 @@ digit-requires-5 c κs = search needs
 
 returns : tie.Need-returns
 unfolding zonesOf
-returns c = rw (sym (c .before .before .before .before .before .before .before .within-limits .ensures) ∙ c .before .before .before .before .before .before .if1 .taken) (λ i. zone-digit _ _ (c .before .before .before .before .before .occupied-zones .ensures) 0 _ (c .before .before .before .before .digit .ensures) i ∷ zone-digit _ _ (c .before .before .before .before .before .occupied-zones .ensures) 1 _ (c .before .before .before .digit2 .ensures) i ∷ zone-digit _ _ (c .before .before .before .before .before .occupied-zones .ensures) 2 _ (c .before .before .digit3 .ensures) i ∷ zone-digit _ _ (c .before .before .before .before .before .occupied-zones .ensures) 3 _ (c .before .digit4 .ensures) i ∷ zone-digit _ _ (c .before .before .before .before .before .occupied-zones .ensures) 4 _ (c .digit5 .ensures) i ∷ [])
+returns c =
+    let first = c .before .before .before .before in
+    let found = first .before in
+    let zone = zone-digit _ _ (found .occupied-zones .ensures) in
+    rw (sym (found .before .before .within-limits .ensures) ∙ found .before .if1 .taken)
+    (λ i.
+    zone 0 _ (first .digit .ensures) i
+    ∷ zone 1 _ (c .before .before .before .digit2 .ensures) i
+    ∷ zone 2 _ (c .before .before .digit3 .ensures) i
+    ∷ zone 3 _ (c .before .digit4 .ensures) i
+    ∷ zone 4 _ (c .digit5 .ensures) i
+    ∷ [])
 
 returns-2 : tie.Need-returns-2
 unfolding zonesOf
