@@ -2,7 +2,7 @@
 -- Assumes nothing.
 use Prim.Native.Nat.{ℕ, _<_}
 use native.Mathlib.Omega.{arith}
-use mathlib.Core.Path.{_≡_, sym, ap, ap₂, _∙_}
+use mathlib.Core.Path.{_≡_, ap, ap₂, _∙_}
 use mathlib.Core.Bool.{Bool, cond}
 use borrow.Author.Tests.{eq-eqb, ne-eqb}
 use Rattle.answers.proofs.Chains.{group-below, test-below}
@@ -11,9 +11,8 @@ use Rattle.islands.specs.declared.Island.{Island}
 use Rattle.islands.specs.declared.Track.{Track}
 use Rattle.reports.specs.Answer.{answerOf, formAnswer, placeAnswer, stateAnswer}
 use Rattle.reports.specs.Reports.{acted, kindOf, namedTrack, withNamed}
-use Rattle.reports.specs.Taken.{stationAfter, taken}
+use Rattle.reports.specs.Taken.{stationAfter}
 use Rattle.reports.specs.declared.Report.{Report}
-use Rattle.reports.specs.declared.Taken.{Taken}
 use Rattle.station.specs.Station.{settingsAnswer, trackAt, withTrack}
 use Rattle.station.specs.declared.Station.{Station}
 
@@ -38,15 +37,6 @@ after-accepted s r e = ap (λ (b : Bool). cond b (acted (kindOf (r .kind)) s r) 
 pub after-refused : (s : Station) (r : Report) → (answerOf s r ≡ 0 → ⊥) → stationAfter s r ≡ s
 unfolding stationAfter
 after-refused s r e = ap (λ (b : Bool). cond b (acted (kindOf (r .kind)) s r) s) (ne-eqb (answerOf s r) 0 e)
-
-module _ (s : Station) (r : Report) (n : ℕ) (e : n ≡ answerOf s r) where
-  pub taken-accepted : (t : Station) → n ≡ 0 → t ≡ acted (kindOf (r .kind)) s r → _≡_ {A = Taken} (record { answer = n; station = t }) (taken s r)
-  unfolding taken
-  taken-accepted t z h = λ i. record { answer = e i; station = (h ∙ sym (after-accepted s r (sym e ∙ z))) i }
-
-  pub taken-refused : (n ≡ 0 → ⊥) → _≡_ {A = Taken} (record { answer = n; station = s }) (taken s r)
-  unfolding taken
-  taken-refused z = λ i. record { answer = e i; station = sym (after-refused s r (λ q. z (e ∙ q))) i }
 
 -- a report's answer is 0 to 8
 pub answer-below : (s : Station) (r : Report) → answerOf s r < 9
