@@ -5,9 +5,17 @@ use Rattle.islands.specs.Ageing.{late, older, olderTrack}
 use Rattle.islands.specs.Fresh.{freshAdvance, freshNear, present, someFresh, someHeld}
 use Rattle.islands.specs.Islands.{someFailed, someOccupied, withinLimits}
 use Rattle.islands.specs.Mark.{detectorNow, freeNow, leavingMark, occupiedNow, withIsland}
+use Rattle.register.specs.Answers.{appendAnswer, headAnswer, lengthAnswer, registerAnswer, startAnswer}
+use Rattle.register.specs.Layout.{entryAt, entryOf, header, reportIn, settingsIn}
+use Rattle.register.specs.Reading.{entryAnswer, handedBack, handedBackAt, readAnswer, readOf, readingOf, stepAnswer, stepOf}
+use Rattle.register.specs.Replay.{after, firstWrong}
+use Rattle.register.specs.Writing.{appended, appendedBytes, started}
 use Rattle.reports.specs.Answer.{answerOf, formAnswer, placeAnswer, stateAnswer}
 use Rattle.reports.specs.Reports.{acted, kindOf}
 use Rattle.reports.specs.Taken.{stationAfter}
+use Rattle.sheet.specs.Lines.{refusalLine, rowLine, title}
+use Rattle.sheet.specs.Printed.{printed, rowLines, sheetOf}
+use Rattle.sheet.specs.Text.{decimal, lengthWritten, written}
 use Rattle.signal.specs.Heads.{headOutputs}
 use Rattle.signal.specs.Outputs.{outputsOf}
 use Rattle.siting.specs.Siting.{advanceSited, warningSited}
@@ -49,6 +57,22 @@ ofReports : Unit {0}
 unfolding answerOf formAnswer placeAnswer stateAnswer acted kindOf stationAfter
 ofReports = tt
 
+ofTheLayout : Unit {0}
+unfolding entryAt entryOf header reportIn settingsIn
+ofTheLayout = tt
+
+ofRegisters : Unit {0}
+unfolding appendAnswer headAnswer lengthAnswer registerAnswer startAnswer appended appendedBytes started after firstWrong
+ofRegisters = tt
+
+ofReadings : Unit {0}
+unfolding entryAnswer handedBack handedBackAt readAnswer readOf readingOf stepAnswer stepOf
+ofReadings = tt
+
+ofSheets : Unit {0}
+unfolding refusalLine rowLine title printed rowLines sheetOf decimal lengthWritten written
+ofSheets = tt
+
 unfoldable pub computed : Unit {0}
-unfolding ofAnswers ofSignals ofSiting ofMarks ofTracks ofStations ofTheClock ofReports
+unfolding ofAnswers ofSignals ofSiting ofMarks ofTracks ofStations ofTheClock ofReports ofTheLayout ofRegisters ofReadings ofSheets
 computed = tt

@@ -9,6 +9,9 @@ pub mod ReadBack
 pub mod Refusals
 pub mod RegisterBytes
 pub mod RegisterLaws
+pub mod RegisterRefusals
+pub mod RegisterRows
 pub mod ReplayLaws
 pub mod Rows
 pub mod SheetBack
+pub mod SheetRows

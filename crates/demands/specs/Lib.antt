@@ -3,4 +3,7 @@ pub mod HouseRows
 pub mod Machine
 pub mod ReadBack
 pub mod Refusals
+pub mod RegisterRefusals
+pub mod RegisterRows
+pub mod SheetRows
 pub mod Table

@@ -1,0 +1,35 @@
+// Document 01, "The register", "The numbers it answers" and "The matrix printer": the register
+// through the compiled library. A line for each group of the tables RegisterRows, RegisterRefusals
+// and SheetRows of crates/demands/specs, with the same cases in the same order, and one more on the
+// largest buffer. (Groups 1 and 3 are of bytes that no public function hands out alone; 5 and 13
+// write them.) Proofs do not cover the compiler's back end; this does. The file stdout is typed from
+// the document.
+mod appending;
+mod entries;
+mod given;
+mod largest;
+mod layout;
+mod limits;
+mod order;
+mod printing;
+mod refusing;
+mod returned;
+mod rows;
+mod sheets;
+mod within;
+mod worked;
+
+fn main() {
+    layout::lines();
+    worked::lines();
+    appending::lines();
+    refusing::lines();
+    limits::lines();
+    entries::lines();
+    rows::lines();
+    within::lines();
+    order::lines();
+    returned::lines();
+    sheets::lines();
+    largest::lines();
+}
