@@ -3,7 +3,7 @@
 use Prim.Native.Nat.{ℕ, suc, _<_}
 use native.Mathlib.Omega.{arith}
 use mathlib.Core.Path.{_≡_, refl, sym, ap, _∙_}
-use mathlib.Core.Bool.{Bool, true, false, true≢false, cond, _||_}
+use mathlib.Core.Bool.{Bool, true, false, false≢true, true≢false, cond, _&&_, _||_}
 use borrow.Author.Tests.{eq-eqb, eqb-false, eqb-true, ne-eqb}
 use lib.Dec.{eqb}
 use Rattle.answers.specs.FirstRefusal.{_if_then_, _▷_}
@@ -48,6 +48,11 @@ pub passed : (n : ℕ) (t : Bool) (rest : ℕ) → (suc n if t then rest) ≡ 0 
 unfolding _if_then_
 passed n true rest e = let z : ⊥ = omega arith in absurd z
 passed n false rest e = (refl, e)
+
+-- both of two tests hold
+pub both : (p q : Bool) → p && q ≡ true → (p ≡ true) × (q ≡ true)
+both true q e = (refl, e)
+both false q e = absurd (false≢true e)
 
 -- neither of two tests holds
 pub neither : (p q : Bool) → p || q ≡ false → (p ≡ false) × (q ≡ false)

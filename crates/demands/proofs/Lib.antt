@@ -2,9 +2,12 @@ pub mod Apart
 pub mod ApartLaws
 pub mod ApartTracks
 pub mod Computed
+pub mod FiveIslands
 pub mod HouseRows
 pub mod Idle
 pub mod Once
+pub mod Quiet
+pub mod Reached
 pub mod ReadBack
 pub mod Refusals
 pub mod RegisterBytes

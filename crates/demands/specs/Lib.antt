@@ -1,6 +1,7 @@
 pub mod Agree
 pub mod HouseRows
 pub mod Machine
+pub mod Quiet
 pub mod ReadBack
 pub mod Refusals
 pub mod RegisterRefusals

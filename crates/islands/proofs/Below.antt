@@ -6,7 +6,7 @@ use native.Mathlib.Decide.{decLe}
 use native.Mathlib.Numerals.{add-one}
 use native.Mathlib.Omega.{arith}
 use mathlib.Core.Path.{_≡_, refl, sym, ap, ap₂, _∙_}
-use mathlib.Core.Bool.{Bool, true, false, cond, _||_, or-false, or-assoc}
+use mathlib.Core.Bool.{Bool, true, false, cond, _||_, false≢true, or-false, or-true, or-assoc}
 use mathlib.Core.List.{List, [], _∷_, _++_, map, map-append, append-assoc}
 use lib.ListN.{length, getD, take, drop, set, length-map, drop-of-length-le}
 use lib.Seq.{take-suc, take-all, drop-cons, set-at, length-take-le, getD-at, set-getD}
@@ -15,6 +15,12 @@ use Rattle.islands.specs.Lists.{any, count}
 one-more : (b : Bool) (m n k : ℕ) → m ≡ n + k → cond b (suc m) m ≡ cond b (suc n) n + k
 one-more true m n k e = omega arith
 one-more false m n k e = e
+
+pub or-both : (a b c d : Bool) → a || c ≡ c → b || d ≡ d → (a || b) || (c || d) ≡ c || d
+or-both true b true d e f = refl
+or-both true b false d e f = absurd (false≢true (sym e))
+or-both false b true d e f = or-true b
+or-both false b false d e f = f
 
 module _ {A : Type 0} (p : A → Bool) where
   pub any-append : (xs ys : List A) → any p (xs ++ ys) ≡ any p xs || any p ys
@@ -50,6 +56,22 @@ module _ {A : Type 0} where
           let all : length l ≤ n = omega arith in
           drop-of-length-le l least ∙ sym (drop-of-length-le l all)
       go (no h) = let fewer : j ≡ n = omega arith in ap (λ (k : ℕ). drop k l) fewer
+
+module _ {A : Type 0} (p q : A → Bool) where
+  -- tests that are the same for each element
+  pub any-alike : ((x : A) → p x ≡ q x) → (l : List A) → any p l ≡ any q l
+  any-alike e [] = refl
+  any-alike e (x ∷ l) = ap₂ _||_ (e x) (any-alike e l)
+
+  -- an element that passes the first test passes the second
+  pub any-only : ((x : A) → p x || q x ≡ q x) → (l : List A) → any p l || any q l ≡ any q l
+  any-only e [] = refl
+  any-only e (x ∷ l) = or-both (p x) (any p l) (q x) (any q l) (e x) (any-only e l)
+
+-- no element passes the test
+pub any-none : {A : Type 0} (p : A → Bool) → ((x : A) → p x ≡ false) → (l : List A) → any p l ≡ false
+any-none p e [] = refl
+any-none p e (x ∷ l) = ap₂ _||_ (e x) (any-none p e l)
 
 module _ {A B : Type 0} (f : A → B) where
   pub any-map : (p : B → Bool) (l : List A) → any p (map f l) ≡ any (λ x. p (f x)) l

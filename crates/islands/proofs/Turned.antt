@@ -29,11 +29,11 @@ same-test a b c d f g = go (decLe a b)
 
 -- ---- an age after n ticks
 
-abbrev aged : ℕ → ℕ → ℕ
+abbrev pub aged : ℕ → ℕ → ℕ
 aged zero a = a
 aged (suc n) a = min 65535 (aged n a + 1)
 
-abbrev after : ℕ → Island → Island
+abbrev pub after : ℕ → Island → Island
 after n i =
     record { occupied = i .occupied; leaving = i .leaving; failed = i .failed; age = cond (i .occupied) (aged n (i .age)) (i .age) }
 
@@ -78,7 +78,7 @@ later-free n i o =
     ∙ sym (later-is n i)
 
 -- a timer is reached by an age that has stopped exactly when it would be by one that had not
-reach : (n a timer : ℕ) → timer ≤ 65535 → leb timer (aged n a) ≡ leb timer (a + n)
+pub reach : (n a timer : ℕ) → timer ≤ 65535 → leb timer (aged n a) ≡ leb timer (a + n)
 reach zero a timer h = ap (leb timer) (sym (add-zero a))
 reach (suc n) a timer h =
     ap (leb timer) (aged-some n a) ∙ same-test timer (min 65535 (a + suc n)) timer (a + suc n) (λ k. omega arith) (λ k. omega arith)
@@ -196,7 +196,7 @@ timers c h1 h2 h3 crossing = h3
 
 -- ---- tracks later
 
-pub track-now : (t : Track) → laterTrack 0 t ≡ t
+track-now : (t : Track) → laterTrack 0 t ≡ t
 unfolding laterTrack later
 track-now t = ap (λ (l : List Island). record { islands = l }) (now (t .islands))
   where
@@ -204,13 +204,21 @@ track-now t = ap (λ (l : List Island). record { islands = l }) (now (t .islands
     now [] = refl
     now (i ∷ l) = ap (λ (m : List Island). i ∷ m) (now l)
 
-pub track-older : (n : ℕ) (t : Track) → olderTrack (laterTrack n t) ≡ laterTrack (suc n) t
+track-older : (n : ℕ) (t : Track) → olderTrack (laterTrack n t) ≡ laterTrack (suc n) t
 unfolding laterTrack later olderTrack
 track-older n t = ap (λ (l : List Island). record { islands = l }) (next (t .islands))
   where
     next : (l : List Island) → map older (map (later n) l) ≡ map (later (suc n)) l
     next [] = refl
     next (i ∷ l) = ap (λ (m : List Island). older (later n i) ∷ m) (next l)
+
+pub tracks-now : (l : List Track) → map (laterTrack 0) l ≡ l
+tracks-now [] = refl
+tracks-now (t ∷ l) = ap₂ _∷_ (track-now t) (tracks-now l)
+
+pub tracks-older : (n : ℕ) (l : List Track) → map olderTrack (map (laterTrack n) l) ≡ map (laterTrack (suc n)) l
+tracks-older n [] = refl
+tracks-older n (t ∷ l) = ap₂ _∷_ (track-older n t) (tracks-older n l)
 
 -- ---- what the code makes of an island, and of five
 

@@ -29,3 +29,7 @@ isWarning crossing = false
 -- The fault latches if an occupied warning island's age is T5 or more.
 unfoldable pub late : Settings → Track → Bool
 late c t = anyIsland (λ z i. isWarning z && i .occupied && leb (c .t5) (i .age)) t
+
+-- (for demand 3) a warning island is occupied
+unfoldable pub warningOccupied : Track → Bool
+warningOccupied t = anyIsland (λ z i. isWarning z && i .occupied) t

@@ -1,3 +1,4 @@
+pub mod Settling
 pub mod ShownLaws
 pub mod Stations
 pub mod Surveys

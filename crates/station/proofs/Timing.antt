@@ -6,13 +6,13 @@ use native.Mathlib.Numerals.{add-one}
 use native.Mathlib.Omega.{arith}
 use mathlib.Core.Path.{_≡_, refl, sym, ap, ap₂, subst, _∙_}
 use mathlib.Core.Bool.{Bool, true, false, cond, _&&_, _||_, or-false, or-true, and-false}
-use mathlib.Core.List.{List, [], _∷_, _++_, map}
+use mathlib.Core.List.{List, [], _++_, map}
 use borrow.Author.Tests.{le-leb, lt-leb, leb-true, lt-ltb, le-ltb}
 use lib.Dec.{leb, ltb}
 use lib.ListN.{length, getD, take, drop, take-append-drop}
 use Rattle.islands.proofs.Below.{any-more, any-map, changed, changed-drop, changed-take, count-more, count-map}
 use Rattle.islands.proofs.FreeTracks.{no-fresh, no-late, no-later, no-present}
-use Rattle.islands.proofs.Turned.{below-greater, from-both, from-lesser, track-now, track-older, turning}
+use Rattle.islands.proofs.Turned.{below-greater, from-both, from-lesser, tracks-now, tracks-older, turning}
 use Rattle.islands.specs.Ageing.{late, olderTrack}
 use Rattle.islands.specs.Fresh.{present, someFresh}
 use Rattle.islands.specs.Islands.{Zone, someOccupied, timer}
@@ -165,11 +165,7 @@ module _ (s : Station) (r : Timetable) (e : Timed (s .settings) (live s) r) wher
       ≡ changed (laterTrack (suc n)) (c .tracks) (s .tracks)
   older-then n =
       ap₂ (λ (a b : List Track). map olderTrack a ++ b) (changed-take (laterTrack n) (c .tracks) (s .tracks)) (changed-drop (laterTrack n) (c .tracks) (s .tracks))
-      ∙ ap (λ (a : List Track). a ++ drop (c .tracks) (s .tracks)) (each (live s))
-    where
-      each : (l : List Track) → map olderTrack (map (laterTrack n) l) ≡ map (laterTrack (suc n)) l
-      each [] = refl
-      each (t ∷ l) = ap₂ _∷_ (track-older n t) (each l)
+      ∙ ap (λ (a : List Track). a ++ drop (c .tracks) (s .tracks)) (tracks-older n (live s))
 
   tick-then : (n : ℕ) → suc n < 65536 → tick (stationAt s r n) ≡ stationAt s r (suc n)
   unfolding tick holdSet faultLatched allOlder holdLowered greatestRisk holdAfter
@@ -195,11 +191,7 @@ module _ (s : Station) (r : Timetable) (e : Timed (s .settings) (live s) r) wher
       late-next = ap (λ (l : List Track). any (late c) (take (c .tracks) l)) (older-then n)
 
   now-then : s .tracks ≡ changed (laterTrack 0) (c .tracks) (s .tracks)
-  now-then = sym (ap (λ (l : List Track). l ++ drop (c .tracks) (s .tracks)) (each (live s)) ∙ take-append-drop (c .tracks) (s .tracks))
-    where
-      each : (l : List Track) → map (laterTrack 0) l ≡ l
-      each [] = refl
-      each (t ∷ l) = ap₂ _∷_ (track-now t) (each l)
+  now-then = sym (ap (λ (l : List Track). l ++ drop (c .tracks) (s .tracks)) (tracks-now (live s)) ∙ take-append-drop (c .tracks) (s .tracks))
 
   pub ticks-are : (n : ℕ) → n < 65536 → ticks n s ≡ stationAt s r n
   unfolding ticks holdAfter

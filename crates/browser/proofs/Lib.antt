@@ -1,0 +1,4 @@
+pub mod Apart
+pub mod Moves
+pub mod OneRow
+pub mod Shown

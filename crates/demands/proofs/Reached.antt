@@ -1,0 +1,101 @@
+-- What every station keeps that is reached from a fresh one: a hold of at most T4, and of T4 where the condition is true.
+-- Assumes nothing.
+use Prim.Native.Nat.{ℕ, zero, suc, _-_, _≤_}
+use native.Mathlib.Omega.{arith}
+use mathlib.Core.Path.{_≡_, refl, sym, ap, ap₂, subst, _∙_}
+use mathlib.Core.Bool.{Bool, true, false, cond, not, _&&_, _||_, false≢true}
+use mathlib.Core.List.{List, [], _∷_}
+use lib.Dec.{leb, ltb}
+use lib.ListN.{replicate, take}
+use Rattle.answers.proofs.Chains.{neither}
+use Rattle.answers.specs.Limits.{within}
+use Rattle.demands.proofs.ApartLaws.{after-any}
+use Rattle.demands.proofs.FiveIslands.{Five, five-named, five-older}
+use Rattle.demands.specs.Quiet.{Reached, afterAll}
+use Rattle.islands.specs.Fresh.{present, someFresh}
+use Rattle.islands.specs.Islands.{freeTrack, withinLimits}
+use Rattle.islands.specs.Lists.{any, count}
+use Rattle.islands.specs.declared.Island.{Island}
+use Rattle.islands.specs.declared.Settings.{Settings}
+use Rattle.reports.specs.Reports.{Kind, acted, clock, detectorFailed, detectorRestored, headCondition, islandFree, islandOccupied, kindOf, noKind, normalise, withNamed}
+use Rattle.reports.specs.Taken.{stationAfter}
+use Rattle.reports.specs.declared.Report.{Report}
+use Rattle.station.specs.Aspect.{greatestRisk}
+use Rattle.station.specs.Clock.{allOlder, faultLatched, holdLowered, holdSet, tick, ticks}
+use Rattle.station.specs.Station.{withCondition, withTrack}
+use Rattle.station.specs.With.{freshStation, withFault}
+use Rattle.station.specs.declared.Station.{Station}
+
+-- The hold never exceeds T4, and is T4 where the condition is true.
+pub record Kept (s : Station) : Type 0 where
+  pub within : withinLimits (s .settings) ≡ true
+  pub most : s .hold ≤ s .settings .t4
+  pub full : greatestRisk s ≡ true → s .hold ≡ s .settings .t4
+  pub five : Five (s .tracks)
+
+-- once the hold is set it is full where the condition is true
+kept-set : (s : Station) → withinLimits (s .settings) ≡ true → s .hold ≤ s .settings .t4 → Five (s .tracks) → Kept (holdSet s)
+unfolding holdSet greatestRisk
+kept-set s w h f = record { within = w; most = most (greatestRisk s); full = λ e. ap (λ (b : Bool). cond b (s .settings .t4) (s .hold)) e; five = f }
+  where
+    most : (b : Bool) → cond b (s .settings .t4) (s .hold) ≤ s .settings .t4
+    most true = omega arith
+    most false = h
+
+kept-tick : (s : Station) → Kept s → Kept (tick s)
+unfolding tick faultLatched allOlder holdLowered
+kept-tick s k = kept-set (faultLatched (allOlder (holdLowered s))) (k .within) (lower (not (greatestRisk s) && ltb 0 (s .hold))) (five-older s (k .five))
+  where
+    lower : (b : Bool) → cond b (s .hold - 1) (s .hold) ≤ s .settings .t4
+    lower true = omega (arith, k .most)
+    lower false = k .most
+
+kept-ticks : (n : ℕ) (s : Station) → Kept s → Kept (ticks n s)
+unfolding ticks
+kept-ticks zero s k = k
+kept-ticks (suc n) s k = kept-tick (ticks n s) (kept-ticks n s k)
+
+kept-named : (s : Station) (r : Report) (i : Island) (fault : Bool) → Kept s → Kept (holdSet (withFault (withNamed s r i) fault))
+unfolding withTrack
+kept-named s r i fault k = kept-set _ (k .within) (k .most) (five-named s (r .a) (r .b) i (k .five))
+
+kept-acted : (s : Station) (r : Report) (k : Kind) → Kept s → Kept (acted k s r)
+unfolding acted withTrack withCondition
+kept-acted s r islandOccupied k = kept-named s r _ (s .fault) k
+kept-acted s r islandFree k = kept-named s r _ (s .fault) k
+kept-acted s r clock k = kept-ticks (r .value) s k
+kept-acted s r detectorFailed k = kept-named s r _ true k
+kept-acted s r detectorRestored k = kept-named s r _ (s .fault) k
+kept-acted s r headCondition k = kept-set _ (k .within) (k .most) (k .five)
+kept-acted s r normalise k = kept-set _ (k .within) (omega arith) (k .five)
+kept-acted s r noKind k = k
+
+pub kept-after : (s : Station) (r : Report) → Kept s → Kept (stationAfter s r)
+kept-after s r k = after-any Kept s r k (λ _. kept-acted s r (kindOf (r .kind)) k)
+
+kept-all : (rs : List Report) (s : Station) → Kept s → Kept (afterAll s rs)
+unfolding afterAll
+kept-all [] s k = k
+kept-all (r ∷ rs) s k = kept-all rs (stationAfter s r) (kept-after s r k)
+
+none-of-few : {A : Type 0} (p : A → Bool) (n : ℕ) (l : List A) → any p l ≡ false → any p (take n l) ≡ false
+none-of-few p zero l e = refl
+none-of-few p (suc n) [] e = refl
+none-of-few p (suc n) (x ∷ l) e = let (first, rest) = neither (p x) (any p l) e in ap₂ _||_ first (none-of-few p n l rest)
+
+kept-fresh : (c : Settings) → withinLimits c ≡ true → Kept (freshStation c)
+unfolding freshStation greatestRisk someFresh Five
+kept-fresh c w =
+    record {
+      within = w;
+      most = omega arith;
+      full = λ e. absurd (false≢true (sym no-risk ∙ e));
+      five = (refl, (refl, (refl, (refl, tt))));
+    }
+  where
+    no-risk : any (someFresh c) (take (c .tracks) (replicate 4 freeTrack)) && leb 2 (count (present c) (take (c .tracks) (replicate 4 freeTrack))) ≡ false
+    no-risk = ap (λ (b : Bool). b && leb 2 (count (present c) (take (c .tracks) (replicate 4 freeTrack)))) (none-of-few (someFresh c) (c .tracks) (replicate 4 freeTrack) refl)
+
+-- The hold never exceeds T4 on a reached station.
+pub reached-keeps : (s : Station) → Reached s → Kept s
+reached-keeps s r = subst Kept (r .reached) (kept-all (r .reports) (freshStation (r .settings)) (kept-fresh (r .settings) (r .within)))

@@ -1,0 +1,78 @@
+-- Demand 3: "No lamp is stuck: once the clock has gone the longer of T5, or T4 plus the greatest of T1, T2, T3, with only clock, head and refused reports,
+-- the aspect is settled: out of service if a fault was latched at the start or a warning island is occupied, else orange if any island is, else green."
+use Prim.Native.Nat.{ℕ, _+_, _≤_, max}
+use mathlib.Core.Path.{_≡_}
+use mathlib.Core.Bool.{Bool, true, cond, not, _&&_, _||_}
+use mathlib.Core.List.{List, [], _∷_, _++_}
+use lib.Dec.{eqb}
+use Rattle.answers.specs.FirstRefusal.{_if_then_}
+use Rattle.answers.specs.Numbers.{done}
+use Rattle.islands.specs.Ageing.{warningOccupied}
+use Rattle.islands.specs.Islands.{someOccupied, withinLimits}
+use Rattle.islands.specs.Lists.{any}
+use Rattle.islands.specs.declared.Settings.{Settings}
+use Rattle.reports.specs.Answer.{answerOf}
+use Rattle.reports.specs.Taken.{stationAfter}
+use Rattle.reports.specs.declared.Report.{Report}
+use Rattle.station.specs.Aspect.{aspectOf}
+use Rattle.station.specs.Station.{live}
+use Rattle.station.specs.With.{freshStation}
+use Rattle.station.specs.declared.Station.{Station}
+
+-- the station after a list of reports, taken or refused, one after the other
+unfoldable pub afterAll : Station → List Report → Station
+afterAll s [] = s
+afterAll s (r ∷ rs) = afterAll (stationAfter s r) rs
+
+-- A station reached from a fresh one, of any settings within their limits, by any reports.
+pub record Reached (s : Station) : Type 0 where
+  pub settings : Settings
+  pub reports : List Report
+  pub within : withinLimits settings ≡ true
+  pub reached : afterAll (freshStation settings) reports ≡ s
+
+-- ---- with only clock, head and refused reports
+
+abbrev pub accepted : Station → Report → Bool
+accepted s r = eqb (answerOf s r) done
+
+-- kind 3, and kind 6
+abbrev pub isClock : Report → Bool
+isClock r = eqb (r .kind) 3
+
+abbrev pub isHead : Report → Bool
+isHead r = eqb (r .kind) 6
+
+-- Each report is refused, or a clock report, or a head report, to the station that those before it leave.
+unfoldable pub Quiet : Station → List Report → Bool
+Quiet s [] = true
+Quiet s (r ∷ rs) = (not (accepted s r) || isClock r || isHead r) && Quiet (stationAfter s r) rs
+
+-- how many ticks the clock has gone: the values of the clock reports taken, added up
+unfoldable pub clockGone : Station → List Report → ℕ
+clockGone s [] = 0
+clockGone s (r ∷ rs) = cond (accepted s r && isClock r) (r .value) 0 + clockGone (stationAfter s r) rs
+
+-- ---- the aspect is settled
+
+-- the longer of T5, or T4 plus the greatest of T1, T2, T3
+abbrev pub greatest : Settings → ℕ
+greatest c = max (c .t1) (max (c .t2) (c .t3))
+
+abbrev pub longEnough : Settings → ℕ
+longEnough c = max (c .t5) (c .t4 + greatest c)
+
+-- Out of service if a fault was latched at the start or a warning island is occupied, else orange if any island is, else green: aspects 5, 4 and 0.
+abbrev pub settled : Bool → Station → ℕ
+settled latched s =
+    5 if latched || any warningOccupied (live s) then
+    4 if any someOccupied (live s) then
+    0
+
+-- From a station on, with only such reports: once the clock has gone long enough the aspect is settled, and it is the same after every longer
+-- continuation.
+pub record NotStuck (s : Station) : Type 0 where
+  pub settles : (rs : List Report) → Quiet s rs ≡ true → longEnough (s .settings) ≤ clockGone s rs
+      → aspectOf (afterAll s rs) ≡ settled (s .fault) (afterAll s rs)
+  pub stays : (rs more : List Report) → Quiet s (rs ++ more) ≡ true → longEnough (s .settings) ≤ clockGone s rs
+      → aspectOf (afterAll s (rs ++ more)) ≡ aspectOf (afterAll s rs)
