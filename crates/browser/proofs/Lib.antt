@@ -1,4 +1,5 @@
-pub mod Apart
+pub mod Holding
 pub mod Moves
+pub mod MoveSteps
 pub mod OneRow
-pub mod Shown
+pub mod TakenApart

@@ -1,4 +1,5 @@
 pub mod Agree
+pub mod BrowseBack
 pub mod HouseRows
 pub mod Machine
 pub mod Quiet
