@@ -2,6 +2,7 @@
 -- Assumes nothing.
 use Prim.Native.Nat.{ℕ, suc, _<_}
 use native.Mathlib.Omega.{arith}
+use mathlib.Core.Logic.{_⊎_, inl, inr}
 use mathlib.Core.Path.{_≡_, refl, sym, ap, _∙_}
 use mathlib.Core.Bool.{Bool, true, false, false≢true, true≢false, cond, _&&_, _||_}
 use borrow.Author.Tests.{eq-eqb, eqb-false, eqb-true, ne-eqb}
@@ -54,6 +55,11 @@ pub both : (p q : Bool) → p && q ≡ true → (p ≡ true) × (q ≡ true)
 both true q e = (refl, e)
 both false q e = absurd (false≢true e)
 
+-- one of two tests holds
+pub either : {A B : Type 0} (p q : Bool) → (p ≡ true → A) → (q ≡ true → B) → p || q ≡ true → A ⊎ B
+either true q f g e = inl (f refl)
+either false q f g e = inr (g e)
+
 -- neither of two tests holds
 pub neither : (p q : Bool) → p || q ≡ false → (p ≡ false) × (q ≡ false)
 neither true q e = absurd (true≢false e)
@@ -66,16 +72,23 @@ where-done {A} n x y e = ap {B = A} (λ (b : Bool). cond b x y) (eq-eqb n 0 e)
 pub where-refused : {A : Type 0} (n : ℕ) (x y : A) → (n ≡ 0 → ⊥) → cond (eqb n 0) x y ≡ y
 where-refused {A} n x y h = ap {B = A} (λ (b : Bool). cond b x y) (ne-eqb n 0 h)
 
--- a bound on each number is a bound on the answer
-pub test-below : (k n m : ℕ) (t : Bool) → n < k → m < k → (n if t then m) < k
+-- what is so of each number is so of the answer
+pub test-so : (P : ℕ → Type 0) (n m : ℕ) (t : Bool) → P n → P m → P (n if t then m)
 unfolding _if_then_
-test-below k n m true h g = h
-test-below k n m false h g = g
+test-so P n m true h g = h
+test-so P n m false h g = g
 
-pub group-below : (k x y : ℕ) → x < k → y < k → (x ▷ y) < k
+pub group-so : (P : ℕ → Type 0) (x y : ℕ) → P x → P y → P (x ▷ y)
 unfolding _▷_
-group-below k x y h g = go (eqb x 0)
+group-so P x y h g = go (eqb x 0)
   where
-    go : (b : Bool) → cond b y x < k
+    go : (t : Bool) → P (cond t y x)
     go true = g
     go false = h
+
+-- so a bound on each is a bound on it
+pub test-below : (k n m : ℕ) (t : Bool) → n < k → m < k → (n if t then m) < k
+test-below k = test-so (λ n. n < k)
+
+pub group-below : (k x y : ℕ) → x < k → y < k → (x ▷ y) < k
+group-below k = group-so (λ n. n < k)

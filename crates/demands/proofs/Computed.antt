@@ -1,7 +1,8 @@
--- Document 01, "Rows to hold against the rules" and "The numbers it answers": the definitions that their rows compute with. Whoever says
+-- Document 01, "Rows to hold against the rules" and "The numbers it answers", and demand 3: the definitions that their rows compute with. Whoever says
 -- `unfolding computed` opens them all.
 use Rattle.answers.specs.FirstRefusal.{_if_then_, _▷_}
-use Rattle.islands.specs.Ageing.{late, older, olderTrack}
+use Rattle.demands.specs.Quiet.{Quiet, afterAll, clockGone}
+use Rattle.islands.specs.Ageing.{late, older, olderTrack, warningOccupied}
 use Rattle.islands.specs.Fresh.{freshAdvance, freshNear, present, someFresh, someHeld}
 use Rattle.islands.specs.Islands.{someFailed, someOccupied, withinLimits}
 use Rattle.islands.specs.Mark.{detectorNow, freeNow, leavingMark, occupiedNow, withIsland}
@@ -42,7 +43,7 @@ unfolding detectorNow freeNow leavingMark occupiedNow withIsland
 ofMarks = tt
 
 ofTracks : Unit {0}
-unfolding late older olderTrack freshAdvance freshNear present someFresh someHeld someFailed someOccupied withinLimits
+unfolding late older olderTrack warningOccupied freshAdvance freshNear present someFresh someHeld someFailed someOccupied withinLimits
 ofTracks = tt
 
 ofStations : Unit {0}
@@ -56,6 +57,10 @@ ofTheClock = tt
 ofReports : Unit {0}
 unfolding answerOf formAnswer placeAnswer stateAnswer acted kindOf stationAfter
 ofReports = tt
+
+ofQuiet : Unit {0}
+unfolding afterAll Quiet clockGone
+ofQuiet = tt
 
 ofTheLayout : Unit {0}
 unfolding entryAt entryOf header reportIn settingsIn
@@ -74,5 +79,5 @@ unfolding refusalLine rowLine title printed rowLines sheetOf decimal lengthWritt
 ofSheets = tt
 
 unfoldable pub computed : Unit {0}
-unfolding ofAnswers ofSignals ofSiting ofMarks ofTracks ofStations ofTheClock ofReports ofTheLayout ofRegisters ofReadings ofSheets
+unfolding ofAnswers ofSignals ofSiting ofMarks ofTracks ofStations ofTheClock ofReports ofQuiet ofTheLayout ofRegisters ofReadings ofSheets
 computed = tt

@@ -8,6 +8,7 @@ pub mod HouseRows
 pub mod Idle
 pub mod Once
 pub mod Quiet
+pub mod QuietRows
 pub mod Reached
 pub mod ReadBack
 pub mod Refusals
@@ -19,3 +20,4 @@ pub mod ReplayLaws
 pub mod Rows
 pub mod SheetBack
 pub mod SheetRows
+pub mod Stated

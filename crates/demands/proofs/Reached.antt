@@ -99,3 +99,7 @@ kept-fresh c w =
 -- The hold never exceeds T4 on a reached station.
 pub reached-keeps : (s : Station) → Reached s → Kept s
 reached-keeps s r = subst Kept (r .reached) (kept-all (r .reports) (freshStation (r .settings)) (kept-fresh (r .settings) (r .within)))
+
+-- Any settings within their limits and any reports reach a station: `Reached` leaves none out.
+pub reached-by : (c : Settings) → withinLimits c ≡ true → (rs : List Report) → Reached (afterAll (freshStation c) rs)
+reached-by c w rs = record { settings = c; reports = rs; within = w; reached = refl }

@@ -5,7 +5,7 @@
 use Prim.Native.Nat.{ℕ, zero, suc, _-_, _/_, _%_}
 use native.Mathlib.Omega.{arith}
 use mathlib.Core.Path.{_≡_, refl, sym, ap, _∙_}
-use mathlib.Core.Bool.{Bool, true, false, cond, not}
+use mathlib.Core.Bool.{Bool, cond, not}
 use mathlib.Core.List.{List}
 use borrow.Author.Tests.{eq-eqb}
 use lib.Dec.{eqb, ltb}
@@ -13,11 +13,11 @@ use lib.ListN.{length, take}
 use Rattle.answers.proofs.Chains.{group-refuses}
 use Rattle.answers.specs.FirstRefusal.{_if_then_, _▷_}
 use Rattle.demands.proofs.RegisterBytes.{same-entry, same-first, same-head, same-settings}
+use Rattle.demands.proofs.Stated.{stated-reading, stated-stepping}
 use Rattle.register.proofs.FirstWrong.{Names, names-first}
-use Rattle.register.proofs.Replays.{below-thirteen}
 use Rattle.register.specs.Answers.{lengthAnswer, registerAnswer}
 use Rattle.register.specs.Layout.{entries, entryStart, reportIn}
-use Rattle.register.specs.Reading.{entryAnswer, readAnswer, readOf, readingOf, replayAnswer, stepAnswer, stepOf}
+use Rattle.register.specs.Reading.{entryAnswer, readAnswer, readOf, readingOf, stepAnswer, stepOf}
 use Rattle.register.specs.Replay.{after, asReplayed, firstWrong}
 use Rattle.reports.specs.Taken.{stationAfter}
 use Rattle.station.specs.Station.{leastSettings, made, settingsAnswer}
@@ -37,28 +37,7 @@ agree b k h = (sym (first _), sym (first _), sym (first _))
 
 -- ---- 13 names the first such entry, counted from 1: of all in reading, of the first k in stepping
 
--- an answer is not a number that none of its tests gives
-test-not : (k n m : ℕ) (t : Bool) → (n ≡ k → ⊥) → (m ≡ k → ⊥) → (n if t then m) ≡ k → ⊥
-unfolding _if_then_
-test-not k n m true h g e = h e
-test-not k n m false h g e = g e
-
-group-not : (k x y : ℕ) → (x ≡ k → ⊥) → (y ≡ k → ⊥) → x ▷ y ≡ k → ⊥
-unfolding _▷_
-group-not k x y h g = go (eqb x 0)
-  where
-    go : (t : Bool) → cond t y x ≡ k → ⊥
-    go true e = g e
-    go false e = h e
-
 module _ (b : List ℕ) where
-  not-the-register : registerAnswer b ≡ 13 → ⊥
-  not-the-register e = omega (arith, below-thirteen b)
-
-  none-to-name : (n : ℕ) → firstWrong b n ≡ 0 → replayAnswer b n ≡ 13 → ⊥
-  unfolding _if_then_
-  none-to-name n z e = let done : replayAnswer b n ≡ 0 = ap (λ (k : ℕ). cond (not (eqb k 0)) 13 0) z in omega arith
-
   named : (n answer : ℕ) → answer ≡ 13 → readingOf b n answer .entry ≡ firstWrong b n
   unfolding readingOf
   named n answer e = ap (λ (t : Bool). cond t (firstWrong b n) 0) (eq-eqb answer 13 e)
@@ -73,16 +52,12 @@ module _ (b : List ℕ) where
 
   -- and one is named
   pub read-names-one : readOf b .answer ≡ 13 → readOf b .entry ≡ 0 → ⊥
-  unfolding readOf readingOf readAnswer
-  read-names-one e q =
-      group-not 13 (registerAnswer b) _ not-the-register
-      (none-to-name (entries b) (sym (named (entries b) (readAnswer b) e) ∙ q)) e
+  unfolding readOf readingOf
+  read-names-one e q = stated-reading b .thirteen e (sym (named (entries b) (readAnswer b) e) ∙ q)
 
   pub step-names-one : (k : ℕ) → stepOf b k .answer ≡ 13 → stepOf b k .entry ≡ 0 → ⊥
-  unfolding stepOf readingOf stepAnswer
-  step-names-one k e q =
-      group-not 13 (registerAnswer b) _ not-the-register
-      (group-not 13 (14 if ltb (entries b) k then 0) _ (test-not 13 14 0 (ltb (entries b) k) (λ z. omega arith) (λ z. omega arith)) (none-to-name k (sym (named k (stepAnswer b k) e) ∙ q))) e
+  unfolding stepOf readingOf
+  step-names-one k e q = stated-stepping b k .thirteen e (sym (named k (stepAnswer b k) e) ∙ q)
 
 -- ---- stepping, from the first k entries and the length alone
 

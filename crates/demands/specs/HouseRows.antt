@@ -1,21 +1,22 @@
 -- Rows of our own, for sentences of document 01 that C1 to C14 would not catch if they were wrong. What is due is read off the sentence that stands above
 -- each.
 use Prim.Native.Nat.{ℕ}
-use mathlib.Core.Bool.{Bool, true, cond}
+use mathlib.Core.Bool.{Bool, true, false, cond}
 use mathlib.Core.List.{List, [], _∷_, _++_, map}
 use Rattle.demands.specs.Machine.{ours}
 use Rattle.demands.specs.Refusals.{answerAfter, condition, failed, fiveTracks, restored}
 use Rattle.demands.specs.Table.{Row, c1, c2, c3, c4, c7, c9, clock, freed, normalised, occupied, outputs, row, run, settings}
 use Rattle.islands.specs.Ageing.{older}
 use Rattle.islands.specs.Islands.{islandAt}
+use Rattle.islands.specs.Mark.{withIsland}
 use Rattle.islands.specs.declared.Island.{Island}
 use Rattle.reports.specs.Taken.{stationAfter}
 use Rattle.reports.specs.declared.Report.{Report}
 use Rattle.signal.specs.Heads.{headOutputs}
 use Rattle.signal.specs.Outputs.{outputsOf}
 use Rattle.station.specs.Shown.{headsOf, presenceOf, zonesOf}
-use Rattle.station.specs.Station.{trackAt}
-use Rattle.station.specs.With.{withHold}
+use Rattle.station.specs.Station.{trackAt, withTrack}
+use Rattle.station.specs.With.{withFault, withHold}
 use Rattle.station.specs.declared.Station.{Station}
 
 -- ours after these reports, from a normalised station; or from one of another T4
@@ -56,6 +57,22 @@ seen reports =
 -- two trains, a detector failed, T4 = 50, and no hold left: no run reaches this
 abbrev pub unheld : Station
 unheld = withHold (run ours (ours .make (settings 50)) (normalised ∷ occupied 0 4 ∷ occupied 1 4 ∷ occupied 1 0 ∷ failed 1 1 ∷ [])) 0
+
+-- two trains, one of which is gone, with T4 = 50: n ticks later, the hold that is left and the age of the island that is occupied
+abbrev pub trainGone : List Report
+trainGone = occupied 0 4 ∷ occupied 1 0 ∷ freed 1 0 ∷ []
+
+abbrev pub holdAndAge : ℕ → List Report → List ℕ
+holdAndAge n reports =
+    let s : Station = run ours (ours .make (settings 50)) (reports ++ (clock n ∷ [])) in s .hold ∷ islandAt (trackAt s 0) 4 .age ∷ []
+
+-- an island of track 0 that has been occupied for so long, its detector failed or not, one tick later: no run of a row's length reaches such an age, and
+-- none at all a failed detector with the fault not latched
+abbrev pub shownOld : Bool → ℕ → ℕ → ℕ
+shownOld failed island age =
+    let s : Station = run ours (ours .make (record { tracks = 1; t1 = 65535; t2 = 65534; t3 = 65535; t4 = 0; t5 = 65535 })) (normalised ∷ []) in
+    let old : Island = record { occupied = true; leaving = false; failed = failed; age = age } in
+    outputs ours (run ours (withTrack s 0 (withIsland (trackAt s 0) island old)) (clock 1 ∷ []))
 
 abbrev pub houseRows : List Row
 houseRows =
@@ -142,3 +159,34 @@ houseRows =
     ++ rows 23 (digits (presenceOf (c2 ours))) (0 ∷ 0 ∷ 0 ∷ 0 ∷ [])
     ++ rows 23 (digits (presenceOf (c7 ours))) (1 ∷ 1 ∷ 0 ∷ 0 ∷ [])
     ++ rows 23 (digits (presenceOf fiveTracks)) (1 ∷ 1 ∷ 1 ∷ 1 ∷ [])
+    -- 24: in a single tick the hold falls by one and ages grow by one, whether the fault is latched or not
+    ++ rows 24 (holdAndAge 20 trainGone ++ holdAndAge 20 (normalised ∷ trainGone)) (30 ∷ 20 ∷ 30 ∷ 20 ∷ [])
+    -- 25: an island is held when its age is at least its timer, where that is 65535 by an age that stops there
+    ++ rows 25 (map (shownOld false 4) (65533 ∷ 65534 ∷ 65535 ∷ [])) (34 ∷ 260 ∷ 260 ∷ [])
+    -- 26: the fault latches if an occupied warning island's age is T5 or more, up to 65535 and whatever its detector
+    ++ rows 26 (map (shownOld false 3) (65533 ∷ 65534 ∷ 65535 ∷ [])) (260 ∷ 0 ∷ 0 ∷ [])
+    ++ rows 26 (map (shownOld true 3) (65533 ∷ 65534 ∷ 65535 ∷ [])) (260 ∷ 0 ∷ 0 ∷ [])
+    -- 27: the fault stays latched whatever is reported but a normalise: of a fresh station, and after a warning island is free again
+    ++ rows 27
+    (map (λ reports. outputs ours (run ours (c1 ours) reports))
+    ((occupied 0 4 ∷ [])
+    ∷ (occupied 0 4 ∷ freed 0 4 ∷ [])
+    ∷ (clock 1 ∷ [])
+    ∷ (failed 0 4 ∷ restored 0 4 ∷ clock 1 ∷ [])
+    ∷ (condition 0 1 ∷ [])
+    ∷ [])
+    ++ (shown (occupied 0 3 ∷ clock 600 ∷ freed 0 3 ∷ clock 1 ∷ []) ∷ []))
+    (0 ∷ 0 ∷ 0 ∷ 0 ∷ 0 ∷ 0 ∷ [])
+    -- and no restored detector latches it: of a station handed in, with one failed and no fault
+    ++ rows 27 (outputs ours (run ours (withFault (run ours (c2 ours) (failed 0 4 ∷ [])) false) (restored 0 4 ∷ [])) ∷ []) (1 ∷ [])
+    -- 28: where the condition is false, no report but the clock and a normalise changes the hold
+    ++ rows 28
+    (map (λ reports. run ours (c9 ours) reports .hold)
+    ((condition 0 1 ∷ [])
+    ∷ (occupied 0 3 ∷ [])
+    ∷ (freed 0 4 ∷ [])
+    ∷ (failed 1 1 ∷ [])
+    ∷ (failed 1 1 ∷ restored 1 1 ∷ [])
+    ∷ (freed 0 4 ∷ normalised ∷ [])
+    ∷ []))
+    (50 ∷ 50 ∷ 50 ∷ 50 ∷ 50 ∷ 0 ∷ [])

@@ -3,9 +3,11 @@ pub mod BrowseBack
 pub mod HouseRows
 pub mod Machine
 pub mod Quiet
+pub mod QuietRows
 pub mod ReadBack
 pub mod Refusals
 pub mod RegisterRefusals
 pub mod RegisterRows
 pub mod SheetRows
+pub mod Stated
 pub mod Table
