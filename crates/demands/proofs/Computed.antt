@@ -1,6 +1,8 @@
 -- Document 01, "Rows to hold against the rules" and "The numbers it answers", and demand 3: the definitions that their rows compute with. Whoever says
 -- `unfolding computed` opens them all.
 use Rattle.answers.specs.FirstRefusal.{_if_then_, _▷_}
+use Rattle.browser.specs.Browsing.{movedTo}
+use Rattle.demands.specs.BrowseBack.{afterMoves}
 use Rattle.demands.specs.Quiet.{Quiet, afterAll, clockGone}
 use Rattle.islands.specs.Ageing.{late, older, olderTrack, warningOccupied}
 use Rattle.islands.specs.Fresh.{freshAdvance, freshNear, present, someFresh, someHeld}
@@ -74,10 +76,14 @@ ofReadings : Unit {0}
 unfolding entryAnswer handedBack handedBackAt readAnswer readOf readingOf stepAnswer stepOf
 ofReadings = tt
 
+ofBrowsing : Unit {0}
+unfolding afterMoves movedTo
+ofBrowsing = tt
+
 ofSheets : Unit {0}
 unfolding refusalLine rowLine title printed rowLines sheetOf decimal lengthWritten written
 ofSheets = tt
 
 unfoldable pub computed : Unit {0}
-unfolding ofAnswers ofSignals ofSiting ofMarks ofTracks ofStations ofTheClock ofReports ofQuiet ofTheLayout ofRegisters ofReadings ofSheets
+unfolding ofAnswers ofSignals ofSiting ofMarks ofTracks ofStations ofTheClock ofReports ofQuiet ofTheLayout ofRegisters ofReadings ofBrowsing ofSheets
 computed = tt

@@ -2,6 +2,7 @@ pub mod Apart
 pub mod ApartLaws
 pub mod ApartTracks
 pub mod BrowseBack
+pub mod BrowseRows
 pub mod Computed
 pub mod FiveIslands
 pub mod HouseRows

@@ -1,5 +1,6 @@
 pub mod Agree
 pub mod BrowseBack
+pub mod BrowseRows
 pub mod HouseRows
 pub mod Machine
 pub mod Quiet
