@@ -15,7 +15,7 @@ use Rattle.register.specs.Replay.{after, firstWrong}
 use Rattle.register.specs.Writing.{appended, appendedBytes, started}
 use Rattle.reports.specs.Answer.{answerOf, formAnswer, placeAnswer, stateAnswer}
 use Rattle.reports.specs.Reports.{acted, kindOf}
-use Rattle.reports.specs.Taken.{stationAfter}
+use Rattle.reports.specs.Taken.{stationAfter, taken}
 use Rattle.sheet.specs.Lines.{refusalLine, rowLine, title}
 use Rattle.sheet.specs.Printed.{printed, rowLines, sheetOf}
 use Rattle.sheet.specs.Text.{decimal, lengthWritten, written}
@@ -57,7 +57,7 @@ unfolding allOlder faultLatched holdLowered holdSet tick ticks
 ofTheClock = tt
 
 ofReports : Unit {0}
-unfolding answerOf formAnswer placeAnswer stateAnswer acted kindOf stationAfter
+unfolding answerOf formAnswer placeAnswer stateAnswer acted kindOf stationAfter taken
 ofReports = tt
 
 ofQuiet : Unit {0}

@@ -22,3 +22,4 @@ pub mod Rows
 pub mod SheetBack
 pub mod SheetRows
 pub mod Stated
+pub mod StationRows

@@ -11,4 +11,5 @@ pub mod RegisterRefusals
 pub mod RegisterRows
 pub mod SheetRows
 pub mod Stated
+pub mod StationRows
 pub mod Table

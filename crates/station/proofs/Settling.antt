@@ -20,6 +20,7 @@ use Rattle.islands.specs.Lists.{any, count}
 use Rattle.islands.specs.Turns.{laterTrack}
 use Rattle.islands.specs.declared.Settings.{Settings}
 use Rattle.islands.specs.declared.Track.{Track}
+use Rattle.station.proofs.Timing.{riskOf}
 use Rattle.station.specs.Aspect.{greatestRisk}
 use Rattle.station.specs.Clock.{allOlder, faultLatched, holdLowered, holdSet, tick, ticks}
 use Rattle.station.specs.Station.{live}
@@ -79,16 +80,12 @@ module _ (s : Station) where
   abbrev c : Settings
   c = s .settings
 
-  -- the condition of settings and live tracks
-  abbrev riskIn : Settings → List Track → Bool
-  riskIn d l = any (someFresh d) l && leb 2 (count (present d) l)
-
   module _ (limit : (z : Zone) → timer c z ≤ 65535) where
     -- The condition, once every island is held, stays false.
     pub no-risk-then : (n : ℕ) → ((z : Zone) → timer c z ≤ n) → greatestRisk (ticks n s) ≡ false
     unfolding greatestRisk
     no-risk-then n long =
-        ap₂ riskIn (ticks-settings n s) (ticks-live n s)
+        ap₂ riskOf (ticks-settings n s) (ticks-live n s)
         ∙ ap (λ (b : Bool). b && leb 2 (count (present c) (map (laterTrack n) (live s))))
         (any-map (laterTrack n) (someFresh c) (live s) ∙ any-none _ (λ t. no-fresh-then c n t limit long) (live s))
 

@@ -126,7 +126,8 @@ hold-more risk t4 hold i b d l m v el eb em ed ev =
 
 -- ---- the station after n ticks, by its timetable
 
-abbrev riskOf : Settings → List Track → Bool
+-- the condition, of settings and live tracks
+abbrev pub riskOf : Settings → List Track → Bool
 riskOf c l = any (someFresh c) l && leb 2 (count (present c) l)
 
 abbrev pub stationAt : Station → Timetable → ℕ → Station
