@@ -65,6 +65,7 @@ stationRows =
     ++ each 29 3 (aspects 3 ((occupied 1 0 ∷ occupied 2 4 ∷ []) ∷ [])) ++ each 29 2 (aspects 1 ((occupied 0 0 ∷ occupied 0 2 ∷ occupied 0 4 ∷ []) ∷ []))
     ++ rows 29 (zonesOf (short 4 0 (occupied 0 4 ∷ occupied 2 0 ∷ occupied 3 3 ∷ []))) (0 ∷ 1 ∷ 1 ∷ 0 ∷ 0 ∷ [])
     ++ rows 29 (digits (presenceOf (short 4 0 (occupied 0 4 ∷ occupied 2 0 ∷ leaving 3)))) (1 ∷ 0 ∷ 1 ∷ 1 ∷ [])
+    ++ rows 29 (digits (presenceOf (short 4 0 (occupied 1 4 ∷ occupied 2 0 ∷ [])))) (0 ∷ 1 ∷ 1 ∷ 0 ∷ [])
     -- 30: the crossing of that track gives the mark: a train leaves on each of four; and no island of another track
     ++ each 30 0 (onEach leaving ++ onEach departing)
     ++ each 30 2 (aspects 4 ((occupied 0 2 ∷ occupied 1 1 ∷ freed 0 2 ∷ []) ∷ (occupied 3 2 ∷ occupied 2 3 ∷ freed 3 2 ∷ []) ∷ []))
