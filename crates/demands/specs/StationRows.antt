@@ -3,13 +3,14 @@
 use Prim.Native.Nat.{ℕ}
 use mathlib.Core.Bool.{Bool, true, false}
 use mathlib.Core.List.{List, [], _∷_, _++_, map}
+use Rattle.demands.specs.HouseRows.{departing, digits, leaving, rows, shown, unheld}
 use Rattle.demands.specs.Machine.{ours}
 use Rattle.demands.specs.Refusals.{answerAfter, chosen, condition, each, failed, fiveTracks, restored}
+use Rattle.demands.specs.RegisterRows.{settingsTold}
 use Rattle.demands.specs.Table.{Row, c1, c2, c3, c7, c9, clock, freed, normalised, occupied, outputs, report, run, settings}
 use Rattle.islands.specs.Islands.{islandAt}
 use Rattle.islands.specs.Mark.{withIsland}
 use Rattle.islands.specs.declared.Island.{Island}
-use Rattle.islands.specs.declared.Settings.{Settings}
 use Rattle.reports.specs.Answer.{answerOf}
 use Rattle.reports.specs.Taken.{stationAfter, taken}
 use Rattle.reports.specs.declared.Report.{Report}
@@ -18,7 +19,6 @@ use Rattle.station.specs.Shown.{presenceOf, zonesOf}
 use Rattle.station.specs.Station.{trackAt, withTrack}
 use Rattle.station.specs.With.{withFault, withHold, withTracks}
 use Rattle.station.specs.declared.Station.{Station}
-use Rattle.demands.specs.HouseRows.{departing, digits, leaving, rows, shown, unheld}
 
 -- short timers 3, 5, 4 and T5 = 9: a normalised station of so many tracks and of this T4, after these reports; its aspect with T4 = 0
 abbrev pub short : ℕ → ℕ → List Report → Station
@@ -50,9 +50,6 @@ handed occupied leaving island =
 
 abbrev pub fiveIslands : List ℕ
 fiveIslands = 0 ∷ 1 ∷ 2 ∷ 3 ∷ 4 ∷ []
-
-abbrev pub settingsTold : Station → List ℕ
-settingsTold s = let c : Settings = s .settings in c .tracks ∷ c .t1 ∷ c .t2 ∷ c .t3 ∷ c .t4 ∷ c .t5 ∷ []
 
 abbrev pub stationRows : List Row
 stationRows =
@@ -107,7 +104,7 @@ stationRows =
     ++ rows 37 (run ours (c9 ours) (normalised ∷ []) .hold ∷ outputs ours (run ours (c1 ours) (occupied 0 4 ∷ normalised ∷ [])) ∷ []) (50 ∷ 0 ∷ [])
     ++ rows 37 (run ours (c2 ours) (condition 0 8 ∷ condition 0 1040 ∷ condition 2 16 ∷ report 6 0 1 0 32 ∷ []) .conditions) (8 ∷ 0 ∷ [])
     ++ each 37 0 (map (λ r. stationAfter unheld r .hold) (occupied 1 0 ∷ freed 0 0 ∷ failed 1 1 ∷ normalised ∷ []))
-    ++ rows 37 (settingsTold (stationAfter fiveTracks normalised)) (5 ∷ 300 ∷ 300 ∷ 300 ∷ 0 ∷ 600 ∷ [])
+    ++ rows 37 (settingsTold (stationAfter fiveTracks normalised .settings)) (5 ∷ 300 ∷ 300 ∷ 300 ∷ 0 ∷ 600 ∷ [])
     ++ each 37 0 (digits (map (λ r. stationAfter fiveTracks r .fault) (failed 0 0 ∷ normalised ∷ [])))
     -- 38: any failed lamp puts out every lamp; each sounder by its own bit; a lamp and a sounder, both; first of all power, communication, two sounders
     ++ each 38 0 (map (headOutputs 31) (1 ∷ 2 ∷ 4 ∷ 8 ∷ [])) ++ each 38 480 (map (headOutputs 511) (1 ∷ 2 ∷ 4 ∷ 8 ∷ []))
@@ -136,7 +133,7 @@ stationRows =
     ++ each 42 0 (stationAfter (withHold (short 2 2 (occupied 0 4 ∷ occupied 1 4 ∷ clock 2 ∷ [])) 0) (clock 1) .hold ∷ [])
     -- 43: a fresh station has no hold left and both conditions 0; a refused making is of 1 track with T1 to T4 equal to 1 and T5 to 2, its fault latched
     ++ each 43 0 (ours .make (settings 50) .hold ∷ ours .make (settings 50) .conditions)
-    ++ rows 43 (settingsTold (ours .make (fiveTracks .settings)) ++ (ours .aspect (ours .make (fiveTracks .settings)) ∷ [])) (1 ∷ 1 ∷ 1 ∷ 1 ∷ 1 ∷ 2 ∷ 5 ∷ [])
+    ++ rows 43 (settingsTold (ours .make (fiveTracks .settings) .settings) ++ (ours .aspect (ours .make (fiveTracks .settings)) ∷ [])) (1 ∷ 1 ∷ 1 ∷ 1 ∷ 1 ∷ 2 ∷ 5 ∷ [])
     -- 44: both bytes of the value are read; fields far beyond their limits; 2 before 3, 5 and 7; the last track of 4, and the one after of 1, 3 and 4
     ++ rows 44 (map (λ kind. answerOf (c2 ours) (report kind 0 0 0 256)) (1 ∷ 2 ∷ 3 ∷ 4 ∷ 5 ∷ 6 ∷ 7 ∷ [])) (2 ∷ 2 ∷ 0 ∷ 2 ∷ 2 ∷ 0 ∷ 2 ∷ [])
     ++ rows 44 (map (answerOf (c2 ours)) (occupied 0 255 ∷ condition 255 8 ∷ condition 0 65535 ∷ report 1 0 3 128 0 ∷ [])) (4 ∷ 5 ∷ 2 ∷ 2 ∷ [])
