@@ -21,6 +21,7 @@ pub use shown::some_occupied;
 pub use turning::turns_of;
 
 // The number of tracks, and the timers in ticks. A tick is a tenth of a second.
+#[repr(C)]
 pub struct Settings {
     pub tracks: u8,
     pub t1: u16,
@@ -31,6 +32,7 @@ pub struct Settings {
 }
 
 // An island is free, or occupied with a mark and an age in ticks. Its detector may have failed.
+#[repr(C)]
 pub struct Island {
     pub occupied: bool,
     pub leaving: bool,
@@ -39,6 +41,7 @@ pub struct Island {
 }
 
 // Advance side 1, warning side 1, crossing, warning side 2, advance side 2.
+#[repr(C)]
 pub struct Track {
     pub islands: [Island; 5],
 }

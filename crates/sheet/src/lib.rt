@@ -11,6 +11,7 @@ use station::ZoneDigits;
 
 // What a row of a sheet shows: its entry's number, the five zone digits in island order, the nine
 // output bits, VF first, and the answer.
+#[repr(C)]
 pub struct RowFields {
     pub entry: u64,
     pub zones: ZoneDigits,

@@ -7,12 +7,15 @@ use answers::DONE;
 use answers::OUTSIDE_LIMITS;
 
 // A time. No distance is ever taken for one: the two are types of their own.
+#[repr(C)]
 pub struct Seconds(pub u16);
 
 // A distance.
+#[repr(C)]
 pub struct Metres(pub u16);
 
 // An answer, 0 or 8, and the distance, which is 0 where the answer is not.
+#[repr(C)]
 pub struct Sited {
     pub answer: u8,
     pub distance: Metres,

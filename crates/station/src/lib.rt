@@ -24,6 +24,7 @@ pub use surveying::is_obstructed;
 pub use ticking::clock;
 
 // Up to four tracks, of which the settings' number count. The hold is what is left of T4, in ticks.
+#[repr(C)]
 pub struct Station {
     pub settings: Settings,
     pub tracks: [Track; 4],
@@ -33,6 +34,7 @@ pub struct Station {
 }
 
 // The answer to settings, and the station made of them.
+#[repr(C)]
 pub struct Made {
     pub answer: u8,
     pub station: Station,

@@ -1,0 +1,90 @@
+//! A reader that holds a lent register and a place in it.
+
+use crate::answer::Refusal;
+use crate::declared;
+use crate::register::{read_or_refused, Register};
+use crate::station::Station;
+
+/// A browser: a register and the row that it stands on. A move answers as stepping does, and a refused one keeps its place.
+///
+/// ```
+/// use degvuurel::{Aspect, Recorder, Report, Settings};
+///
+/// # fn main() -> Result<(), degvuurel::Refusal> {
+/// let mut bytes = [0; 1024];
+/// let mut recorder = Recorder::start(&mut bytes, Settings { tracks: 1, t1: 300, t2: 300, t3: 300, t4: 0, t5: 600 })?;
+/// recorder.append(Report::normalise())?;
+/// recorder.append(Report::occupied(0, 2))?;
+///
+/// let mut browser = recorder.register().browse();
+/// assert_eq!(browser.forward()?.aspect(), Aspect::Permitted);
+/// assert_eq!(browser.to_row(2)?.aspect(), Aspect::Forbidden);
+/// assert_eq!(browser.forward().unwrap_err().number(), 14);
+/// assert_eq!(browser.row(), 2);
+/// assert_eq!(browser.back()?.aspect(), Aspect::Permitted);
+/// # Ok(())
+/// # }
+/// ```
+#[derive(Clone, Copy, Debug, PartialEq, Eq)]
+pub struct Browser<'a> {
+    register: Register<'a>,
+    row: usize,
+}
+
+impl<'a> Browser<'a> {
+    /// A browser of any bytes, at row 0. Whether they are a register, each move and each look answers.
+    #[must_use]
+    pub fn open(register: Register<'a>) -> Browser<'a> {
+        Browser { register, row: 0 }
+    }
+
+    /// The register that it holds.
+    #[must_use]
+    pub fn register(&self) -> Register<'a> {
+        self.register
+    }
+
+    /// The row that it stands on.
+    #[must_use]
+    pub fn row(&self) -> usize {
+        self.row
+    }
+
+    /// The station as it was after the row that it stands on.
+    pub fn station(&self) -> Result<Station, Refusal> {
+        self.register.step(self.row)
+    }
+
+    /// The eight bytes of the row that it stands on; row 0 has none.
+    pub fn entry(&self) -> Result<&'a [u8], Refusal> {
+        self.register.entry(self.row)
+    }
+
+    /// Moves to a row.
+    pub fn to_row(&mut self, row: usize) -> Result<Station, Refusal> {
+        let bytes = self.register.bytes();
+        // SAFETY: the pointer and the length are one slice.
+        self.moved(unsafe { declared::degvuurel_browse(bytes.as_ptr(), bytes.len(), row) })
+    }
+
+    /// One row forward. From the last row it is refused with 14.
+    pub fn forward(&mut self) -> Result<Station, Refusal> {
+        let bytes = self.register.bytes();
+        // SAFETY: the pointer and the length are one slice.
+        self.moved(unsafe { declared::degvuurel_forward(bytes.as_ptr(), bytes.len(), self.row) })
+    }
+
+    /// One row back. From row 0 it is refused with 14.
+    pub fn back(&mut self) -> Result<Station, Refusal> {
+        let bytes = self.register.bytes();
+        // SAFETY: the pointer and the length are one slice.
+        self.moved(unsafe { declared::degvuurel_back(bytes.as_ptr(), bytes.len(), self.row) })
+    }
+
+    /// A step's count is its row; a refused move keeps its place.
+    fn moved(&mut self, reading: declared::Reading) -> Result<Station, Refusal> {
+        let shown = read_or_refused(reading)?;
+        self.row = shown.count;
+        Ok(shown.station)
+    }
+}

@@ -1,0 +1,98 @@
+//! The library's functions as the archive has them, and the structs that only they pass. A slice is a pointer and a length, and a
+//! struct goes by value, field by field as in the Rattle source.
+//!
+//! No function asks anything of its arguments but that they are what their types say: that a pointer and a length are one slice,
+//! which is not read or written by anyone else meanwhile, and that a bool is 0 or 1. The safe functions of this package take slices
+//! and bools of Rust, for which both hold.
+
+use crate::report::Report;
+use crate::sheet::{RowFields, SheetText};
+use crate::siting::{Metres, Seconds};
+use crate::station::{Settings, Station};
+
+/// The answer to settings, and the station made of them.
+#[repr(C)]
+pub struct Made {
+    pub answer: u8,
+    pub station: Station,
+}
+
+/// The answer to a report, and the station after it.
+#[repr(C)]
+pub struct Taken {
+    pub answer: u8,
+    pub station: Station,
+}
+
+/// What reading or stepping returns.
+#[repr(C)]
+pub struct Reading {
+    pub answer: u8,
+    pub entry: usize,
+    pub count: usize,
+    pub station: Station,
+}
+
+/// Where a row's entry lies in its register.
+#[repr(C)]
+pub struct Entry {
+    pub answer: u8,
+    pub at: usize,
+    pub length: usize,
+}
+
+/// What each head shows.
+#[repr(C)]
+pub struct Heads {
+    pub outputs: [u16; 2],
+}
+
+/// The zone digits in island order.
+#[repr(C)]
+pub struct Zones {
+    pub digits: [u8; 5],
+}
+
+/// Whether a track counts for the greatest risk.
+#[repr(C)]
+pub struct Presence {
+    pub tracks: [bool; 4],
+}
+
+/// An answer, and a distance.
+#[repr(C)]
+pub struct Sited {
+    pub answer: u8,
+    pub distance: Metres,
+}
+
+extern "C" {
+    pub fn degvuurel_make(settings: Settings) -> Made;
+    pub fn degvuurel_take(station: Station, report: Report) -> Taken;
+    pub fn degvuurel_answer(station: Station, report: Report) -> u8;
+    pub fn degvuurel_aspect(station: Station) -> u8;
+    pub fn degvuurel_heads(station: Station) -> Heads;
+    pub fn degvuurel_zones(station: Station) -> Zones;
+    pub fn degvuurel_presence(station: Station) -> Presence;
+    pub fn degvuurel_outputs(aspect: u8) -> u16;
+    pub fn degvuurel_head(outputs: u16, condition: u16) -> u16;
+
+    pub fn degvuurel_advance(speed: u16, message: Seconds) -> Sited;
+    pub fn degvuurel_warning(speed: u16, tracks: u8) -> Sited;
+
+    pub fn degvuurel_start(register: *mut u8, length: usize, settings: Settings) -> u8;
+    pub fn degvuurel_append(register: *mut u8, length: usize, k: usize, station: Station, report: Report) -> Taken;
+    pub fn degvuurel_read(register: *const u8, length: usize) -> Reading;
+    pub fn degvuurel_step(register: *const u8, length: usize, row: usize) -> Reading;
+    pub fn degvuurel_browse(register: *const u8, length: usize, row: usize) -> Reading;
+    pub fn degvuurel_forward(register: *const u8, length: usize, row: usize) -> Reading;
+    pub fn degvuurel_back(register: *const u8, length: usize, row: usize) -> Reading;
+    pub fn degvuurel_entry(register: *const u8, length: usize, row: usize) -> Entry;
+    pub fn degvuurel_settings_in(register: *const u8, length: usize) -> Settings;
+    pub fn degvuurel_report_in(entry: *const u8, length: usize) -> Report;
+
+    pub fn degvuurel_print(input: *const u8, length: usize, text: *mut SheetText) -> usize;
+    pub fn degvuurel_title_line(out: *mut u8, length: usize) -> usize;
+    pub fn degvuurel_row_line(out: *mut u8, length: usize, fields: RowFields) -> usize;
+    pub fn degvuurel_refusal_line(out: *mut u8, length: usize, answer: u8, entry: u64) -> usize;
+}

@@ -1,0 +1,113 @@
+//! Reading a register: document 01, "The register".
+
+use crate::answer::{Answer, Refusal};
+use crate::browser::Browser;
+use crate::declared;
+use crate::sheet;
+use crate::station::{Settings, Station};
+
+/// The bytes of the header.
+pub const HEADER: usize = 16;
+
+/// The bytes of an entry.
+pub const ENTRY: usize = 8;
+
+/// The most entries that a register has.
+pub const MOST: usize = 8190;
+
+/// The bytes of a register of [`MOST`] entries.
+pub const MOST_BYTES: usize = HEADER + ENTRY * MOST;
+
+/// A register in lent bytes: exactly the filled ones. Any bytes can be looked at as one; whether they are, each function answers.
+/// Nothing is kept between calls, so a row shown is that row, whatever was shown before.
+#[derive(Clone, Copy, Debug, PartialEq, Eq)]
+pub struct Register<'a> {
+    bytes: &'a [u8],
+}
+
+/// What reading returns: how many entries there are, and the station after them.
+#[derive(Clone, Copy, Debug, PartialEq, Eq)]
+pub struct Reading {
+    /// The number of entries read.
+    pub count: usize,
+    /// The station after them.
+    pub station: Station,
+}
+
+/// What the library returned, or the refusal with the entry that it names.
+pub(crate) fn read_or_refused(reading: declared::Reading) -> Result<Reading, Refusal> {
+    match Answer::given(reading.answer) {
+        Answer::Done => Ok(Reading { count: reading.count, station: reading.station }),
+        answer => Err(Refusal::naming(answer, reading.entry)),
+    }
+}
+
+impl<'a> Register<'a> {
+    /// These bytes, looked at as a register.
+    #[must_use]
+    pub fn new(bytes: &'a [u8]) -> Register<'a> {
+        Register { bytes }
+    }
+
+    /// The lent bytes.
+    #[must_use]
+    pub fn bytes(self) -> &'a [u8] {
+        self.bytes
+    }
+
+    /// The settings of the header. Bytes that are missing count as 0.
+    #[must_use]
+    pub fn settings(self) -> Settings {
+        // SAFETY: the pointer and the length are one slice.
+        unsafe { declared::degvuurel_settings_in(self.bytes.as_ptr(), self.bytes.len()) }
+    }
+
+    /// Replays the whole register.
+    pub fn read(self) -> Result<Reading, Refusal> {
+        // SAFETY: the pointer and the length are one slice.
+        read_or_refused(unsafe { declared::degvuurel_read(self.bytes.as_ptr(), self.bytes.len()) })
+    }
+
+    /// The station as it was after a row. Row 0 is the fresh station, row 1 the first entry.
+    pub fn step(self, row: usize) -> Result<Station, Refusal> {
+        // SAFETY: the pointer and the length are one slice.
+        let reading = unsafe { declared::degvuurel_step(self.bytes.as_ptr(), self.bytes.len(), row) };
+        read_or_refused(reading).map(|reading| reading.station)
+    }
+
+    /// The eight bytes of a row's entry, where they lie in the lent register; they are not replayed.
+    ///
+    /// ```
+    /// use degvuurel::{Recorder, Report, Settings, report_in};
+    ///
+    /// # fn main() -> Result<(), degvuurel::Refusal> {
+    /// let mut bytes = [0; 24];
+    /// let mut recorder = Recorder::start(&mut bytes, Settings { tracks: 1, t1: 1, t2: 1, t3: 1, t4: 0, t5: 2 })?;
+    /// recorder.append(Report::normalise())?;
+    /// let register = recorder.register();
+    /// assert_eq!(register.entry(1)?, [7, 0, 0, 0, 0, 0, 0, 0]);
+    /// assert_eq!(report_in(register.entry(1)?), Report::normalise());
+    /// assert_eq!(register.entry(0).unwrap_err().number(), 14);
+    /// # Ok(())
+    /// # }
+    /// ```
+    pub fn entry(self, row: usize) -> Result<&'a [u8], Refusal> {
+        // SAFETY: the pointer and the length are one slice.
+        let entry = unsafe { declared::degvuurel_entry(self.bytes.as_ptr(), self.bytes.len(), row) };
+        Answer::given(entry.answer).checked().map(|()| &self.bytes[entry.at..entry.at + entry.length])
+    }
+
+    /// A browser of it, at row 0.
+    #[must_use]
+    pub fn browse(self) -> Browser<'a> {
+        Browser::open(self)
+    }
+
+    /// Its sheet, a row for each report; or the one line of a register that cannot be read. To print many, lend [`print`](crate::print) one
+    /// buffer.
+    #[must_use]
+    pub fn sheet(self) -> String {
+        let mut text = sheet::room();
+        sheet::print(self.bytes, &mut text).to_owned()
+    }
+}
