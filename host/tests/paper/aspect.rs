@@ -1,8 +1,6 @@
 //! "From islands to aspect", and what is shown of the tracks.
 
-use super::station::{
-    Station, Track, ADVANCE_1, ADVANCE_2, CROSSING, ISLANDS, TRACKS, WARNING_1, WARNING_2,
-};
+use super::station::{Station, Track, ADVANCE_1, ADVANCE_2, CROSSING, ISLANDS, TRACKS, WARNING_1, WARNING_2};
 
 const PERMITTED: u8 = 0;
 const CLEARING: u8 = 1;
@@ -46,36 +44,20 @@ impl Station {
     /// trains on one track never count as two: tracks are counted, not islands.
     pub(super) fn greatest_risk(&self) -> bool {
         let timers = self.settings.timers();
-        let fresh_approach = self.own_tracks().iter().any(|track| {
-            track
-                .iter()
-                .zip(&timers)
-                .any(|(island, &timer)| island.fresh_approaching(timer))
-        });
-        let present = self
-            .own_tracks()
-            .iter()
-            .filter(|track| counts(track, &timers));
+        let fresh_approach =
+            self.own_tracks().iter().any(|track| track.iter().zip(&timers).any(|(island, &timer)| island.fresh_approaching(timer)));
+        let present = self.own_tracks().iter().filter(|track| counts(track, &timers));
         fresh_approach && present.count() >= 2
     }
 
     fn fresh_approach(&self, places: &[usize]) -> bool {
         let timers = self.settings.timers();
-        self.own_tracks().iter().any(|track| {
-            places
-                .iter()
-                .any(|&place| track[place].fresh_approaching(timers[place]))
-        })
+        self.own_tracks().iter().any(|track| places.iter().any(|&place| track[place].fresh_approaching(timers[place])))
     }
 
     fn any_held(&self) -> bool {
         let timers = self.settings.timers();
-        self.own_tracks().iter().any(|track| {
-            track
-                .iter()
-                .zip(&timers)
-                .any(|(island, &timer)| island.held(timer))
-        })
+        self.own_tracks().iter().any(|track| track.iter().zip(&timers).any(|(island, &timer)| island.held(timer)))
     }
 
     /// "Five zone digits in island order (0 if any track occupies it)." With
@@ -110,8 +92,5 @@ impl Station {
 fn counts(track: &Track, timers: &[u16; ISLANDS]) -> bool {
     track[WARNING_1].occupied
         || track[WARNING_2].occupied
-        || track
-            .iter()
-            .zip(timers)
-            .any(|(island, &timer)| island.approaching() || island.held(timer))
+        || track.iter().zip(timers).any(|(island, &timer)| island.approaching() || island.held(timer))
 }

@@ -48,24 +48,13 @@ pub struct Station {
 
 /// What a refused making, read or step returns: "a fresh station of 1 track
 /// with T1 to T4 equal to 1 and T5 to 2".
-const REFUSED: Settings = Settings {
-    tracks: 1,
-    t1: 1,
-    t2: 1,
-    t3: 1,
-    t4: 1,
-    t5: 2,
-};
+const REFUSED: Settings = Settings { tracks: 1, t1: 1, t2: 1, t3: 1, t4: 1, t5: 2 };
 
 impl Settings {
     /// "T1, T2, T3 from 1 to 65535; T4 from 0 to 65535; T5 from 1 to 65535 and
     /// greater than T2." T5 above T2 is above 0 already.
     pub(super) fn within_limits(&self) -> bool {
-        (1..=TRACKS).contains(&usize::from(self.tracks))
-            && self.t1 > 0
-            && self.t2 > 0
-            && self.t3 > 0
-            && self.t5 > self.t2
+        (1..=TRACKS).contains(&usize::from(self.tracks)) && self.t1 > 0 && self.t2 > 0 && self.t3 > 0 && self.t5 > self.t2
     }
 
     /// "T1 belongs to the advance islands, T2 to warning, T3 to the crossing."
@@ -76,12 +65,7 @@ impl Settings {
 }
 
 impl Island {
-    const FREE: Island = Island {
-        occupied: false,
-        leaving: false,
-        failed: false,
-        age: 0,
-    };
+    const FREE: Island = Island { occupied: false, leaving: false, failed: false, age: 0 };
 
     pub(super) fn approaching(&self) -> bool {
         self.occupied && !self.leaving
@@ -101,13 +85,7 @@ impl Station {
     /// "A fresh station has every island free, no detector failed, both head
     /// conditions 0, no hold left, and its fault latched."
     pub(super) fn fresh(settings: Settings) -> Station {
-        Station {
-            settings,
-            tracks: [[Island::FREE; ISLANDS]; TRACKS],
-            hold: 0,
-            fault: true,
-            conditions: [0; 2],
-        }
+        Station { settings, tracks: [[Island::FREE; ISLANDS]; TRACKS], hold: 0, fault: true, conditions: [0; 2] }
     }
 
     pub(super) fn refused() -> Station {

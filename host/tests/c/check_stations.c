@@ -1,0 +1,94 @@
+/* What stations and heads show, and siting: the rows C1 to C14 of document 01. */
+#include "checks.h"
+
+/* The settings of document 01's rows. */
+static struct degvuurel_settings with_hold(uint16_t t4) { return settings_of(2, 300, 300, 300, t4, 600); }
+
+/* The outputs of the aspect, as the rows have them. */
+static uint16_t shown(struct degvuurel_station station) { return degvuurel_outputs(degvuurel_aspect(station)); }
+
+static void check_outputs(void) {
+    SAME(degvuurel_outputs(DEGVUUREL_PERMITTED), 1);
+    SAME(degvuurel_outputs(DEGVUUREL_CLEARING), 34);
+    SAME(degvuurel_outputs(DEGVUUREL_FORBIDDEN), 72);
+    SAME(degvuurel_outputs(DEGVUUREL_GREATEST_RISK), 152);
+    SAME(degvuurel_outputs(DEGVUUREL_SURROUNDINGS), 260);
+    SAME(degvuurel_outputs(DEGVUUREL_OUT_OF_SERVICE), 0);
+    SAME(degvuurel_outputs(6), 0);
+    SAME(degvuurel_head(260, 0), 260);
+    SAME(degvuurel_head(260, 256), 0);
+    SAME(degvuurel_head(152, 8), 128);
+    SAME(degvuurel_head(152, 48), 0);
+    SAME(degvuurel_head(152, 64), 24);
+}
+
+static void check_siting(void) {
+    const struct degvuurel_seconds none = {0}, six = {6}, most = {60}, too_long = {61};
+    SAME(degvuurel_warning(155, 2).distance.number, 603);
+    SAME(degvuurel_warning(126, 1).distance.number, 245);
+    SAME(degvuurel_warning(126, 1).answer, DEGVUUREL_DONE);
+    SAME(degvuurel_advance(155, none).distance.number, 1292);
+    SAME(degvuurel_advance(155, six).distance.number, 1550);
+    SAME(degvuurel_advance(350, most).distance.number, 8750);
+    SAME(degvuurel_advance(350, most).answer, DEGVUUREL_DONE);
+    SAME(degvuurel_advance(350, too_long).answer, DEGVUUREL_OUTSIDE_LIMITS);
+    SAME(degvuurel_advance(350, too_long).distance.number, 0);
+    SAME(degvuurel_warning(351, 1).answer, DEGVUUREL_OUTSIDE_LIMITS);
+    SAME(degvuurel_warning(350, 5).answer, DEGVUUREL_OUTSIDE_LIMITS);
+}
+
+/* C1 to C8: a train passes, and a second one comes. */
+static void check_trains(void) {
+    struct degvuurel_station held, station = degvuurel_make(with_hold(0)).station;
+    SAME(degvuurel_aspect(station), DEGVUUREL_OUT_OF_SERVICE);
+    station = AFTER(station, DEGVUUREL_NORMALISE, 0, 0, 0);
+    SAME(degvuurel_aspect(station), DEGVUUREL_PERMITTED);
+    station = AFTER(station, DEGVUUREL_OCCUPIED, 0, 4, 0);
+    SAME(shown(station), 34);
+    station = AFTER(station, DEGVUUREL_OCCUPIED, 0, 3, 0);
+    SAME(shown(station), 72);
+    station = AFTER(station, DEGVUUREL_FREE, 0, 4, 0);
+    station = AFTER(station, DEGVUUREL_OCCUPIED, 0, 2, 0);
+    station = AFTER(station, DEGVUUREL_OCCUPIED, 0, 1, 0);
+    station = AFTER(station, DEGVUUREL_FREE, 0, 3, 0);
+    station = AFTER(station, DEGVUUREL_FREE, 0, 2, 0);
+    SAME(shown(station), 1);
+    held = AFTER(station, DEGVUUREL_OCCUPIED, 0, 0, 0);
+    held = AFTER(held, DEGVUUREL_FREE, 0, 1, 0);
+    held = AFTER(held, DEGVUUREL_CLOCK, 0, 0, 299);
+    SAME(shown(held), 1);
+    SAME(shown(AFTER(held, DEGVUUREL_CLOCK, 0, 0, 1)), 260);
+    station = AFTER(station, DEGVUUREL_OCCUPIED, 1, 4, 0);
+    SAME(shown(station), 152);
+    station = AFTER(station, DEGVUUREL_OCCUPIED, 0, 0, 0);
+    station = AFTER(station, DEGVUUREL_FREE, 0, 1, 0);
+    station = AFTER(station, DEGVUUREL_OCCUPIED, 1, 3, 0);
+    station = AFTER(station, DEGVUUREL_FREE, 1, 4, 0);
+    SAME(shown(station), 72);
+}
+
+/* C9 to C11: the hold, a stuck warning island, a normalise that is refused. */
+static void check_timers(void) {
+    struct degvuurel_station station = AFTER(normal(with_hold(50)), DEGVUUREL_OCCUPIED, 0, 4, 0);
+    station = AFTER(station, DEGVUUREL_OCCUPIED, 1, 0, 0);
+    station = AFTER(station, DEGVUUREL_FREE, 1, 0, 0);
+    SAME(shown(station), 152);
+    station = AFTER(station, DEGVUUREL_CLOCK, 0, 0, 49);
+    SAME(shown(station), 152);
+    SAME(shown(AFTER(station, DEGVUUREL_CLOCK, 0, 0, 1)), 34);
+
+    station = AFTER(normal(with_hold(0)), DEGVUUREL_OCCUPIED, 0, 3, 0);
+    station = AFTER(station, DEGVUUREL_CLOCK, 0, 0, 599);
+    SAME(shown(station), 260);
+    SAME(degvuurel_answer(station, report_of(DEGVUUREL_NORMALISE, 0, 0, 0)), DEGVUUREL_NOT_CLEAR);
+    station = AFTER(station, DEGVUUREL_CLOCK, 0, 0, 1);
+    SAME(shown(station), 0);
+    SAME(shown(AFTER(station, DEGVUUREL_FREE, 0, 3, 0)), 0);
+}
+
+void check_stations(void) {
+    check_outputs();
+    check_siting();
+    check_trains();
+    check_timers();
+}

@@ -1,0 +1,137 @@
+//! The header against Rust's declarations and against the Rattle sources: none of the three can be changed alone.
+
+#[path = "c/compiled.rs"]
+mod compiled;
+#[path = "c/sources.rs"]
+mod sources;
+
+// The declarations are the package's own file, which names its structs by these paths.
+#[allow(dead_code)]
+#[path = "../src/declared.rs"]
+mod declared;
+mod report {
+    pub use degvuurel::Report;
+}
+mod sheet {
+    pub use degvuurel::{RowFields, SheetText};
+}
+mod siting {
+    pub use degvuurel::{Metres, Seconds};
+}
+mod station {
+    pub use degvuurel::{Settings, Station};
+}
+
+use compiled::{compiled, package, written_by, LANGUAGES};
+use declared::{Entry, Heads, Made, Presence, Reading, Sited, Taken, Zones};
+use degvuurel::{Island, Metres, Report, RowFields, Seconds, Settings, Station, Track};
+use std::fmt::Write;
+use std::fs;
+use std::mem::{offset_of, size_of};
+
+/// The bytes of the field that a function picks out.
+fn field_size<S, F>(_: impl Fn(&S) -> &F) -> usize {
+    size_of::<F>()
+}
+
+/// The lines of one struct, as tests/c/layout.c prints them. The pattern has no rest, so that no field is forgotten.
+macro_rules! layout {
+    ($lines:ident, $name:literal, $struct:ident { $($field:tt $(as $word:literal)?),* }) => {
+        let _ = |$struct { $($field: _),* }: $struct| ();
+        writeln!($lines, "{} {}", $name, size_of::<$struct>()).unwrap();
+        $(
+            let word = [$($word,)? stringify!($field)][0];
+            let size = field_size(|whole: &$struct| &whole.$field);
+            writeln!($lines, "{}.{} {} {}", $name, word, offset_of!($struct, $field), size).unwrap();
+        )*
+    };
+}
+
+/// The layout that Rust gives each struct.
+fn layout_in_rust() -> String {
+    let mut lines = String::new();
+    layout!(lines, "settings", Settings { tracks, t1, t2, t3, t4, t5 });
+    layout!(lines, "island", Island { occupied, leaving, failed, age });
+    layout!(lines, "track", Track { islands });
+    layout!(lines, "station", Station { settings, tracks, hold, fault, conditions });
+    layout!(lines, "report", Report { kind, a, b, spare, value });
+    layout!(lines, "made", Made { answer, station });
+    layout!(lines, "taken", Taken { answer, station });
+    layout!(lines, "heads_shown", Heads { outputs });
+    layout!(lines, "zones_shown", Zones { digits });
+    layout!(lines, "presence_shown", Presence { tracks });
+    layout!(lines, "seconds", Seconds { 0 as "number" });
+    layout!(lines, "metres", Metres { 0 as "number" });
+    layout!(lines, "sited", Sited { answer, distance });
+    layout!(lines, "reading", Reading { answer, entry, count, station });
+    layout!(lines, "entry_place", Entry { answer, at, length });
+    layout!(lines, "row_fields", RowFields { entry, zones, outputs, answer });
+    lines
+}
+
+#[test]
+fn the_header_lays_structs_out_as_rust_does() {
+    for (compiler, language) in LANGUAGES {
+        let program = compiled(&format!("layout_{compiler}"), compiler, language, &["layout.c"]);
+        assert_eq!(written_by(&program), layout_in_rust(), "by {compiler}");
+    }
+}
+
+fn text_of(file: &str) -> String {
+    fs::read_to_string(package().join(file)).unwrap_or_else(|error| panic!("{file}: {error}"))
+}
+
+/// The sources of some crates, or of this package, one after the other.
+fn texts_of(files: &[&str]) -> String {
+    files.iter().map(|file| text_of(file)).collect()
+}
+
+/// The Rattle sources that declare what the archive passes.
+fn rattle() -> String {
+    texts_of(&[
+        "../crates/islands/src/lib.rt",
+        "../crates/station/src/lib.rt",
+        "../crates/reports/src/lib.rt",
+        "../crates/register/src/lib.rt",
+        "../crates/siting/src/lib.rt",
+        "../crates/sheet/src/lib.rt",
+        "../crates/export/src/registers.rt",
+        "../crates/export/src/sheets.rt",
+        "../crates/export/src/sitings.rt",
+        "../crates/export/src/stations.rt",
+    ])
+}
+
+#[test]
+fn the_structs_are_those_of_the_rattle_sources() {
+    let structs = sources::structs_in_source(&rattle());
+    assert_eq!(structs.len(), 16);
+    assert_eq!(sources::structs_in_c(&text_of("include/degvuurel.h")), structs, "in the header");
+    let files = ["src/station.rs", "src/report.rs", "src/siting.rs", "src/sheet.rs", "src/declared.rs"];
+    assert_eq!(sources::structs_in_source(&texts_of(&files)), structs, "in Rust");
+}
+
+#[test]
+fn the_functions_are_those_of_the_rattle_sources() {
+    let functions = sources::functions_in_source(&rattle());
+    assert_eq!(functions.len(), 26);
+    assert_eq!(sources::functions_in_c(&text_of("include/degvuurel.h")), functions, "in the header");
+    // Rust leaves out what it can do without.
+    for (name, types) in sources::functions_in_source(&text_of("src/declared.rs")) {
+        assert_eq!(Some(&types), functions.get(&name), "{name} in Rust");
+    }
+}
+
+#[test]
+fn the_numbers_are_those_of_the_rattle_sources() {
+    let header = text_of("include/degvuurel.h");
+    let numbers = sources::constants_in_source(&texts_of(&["../crates/answers/src/lib.rt", "../crates/register/src/lib.rt"]));
+    assert_eq!(numbers.len(), 18);
+    for (name, number) in numbers {
+        let forms =
+            [',', ' ', '\n'].map(|end| (format!("DEGVUUREL_{name} = {number}{end}"), format!("DEGVUUREL_{name} {number}{end}")));
+        assert!(forms.iter().any(|(answer, size)| header.contains(answer) || header.contains(size)), "{name} is not {number}");
+    }
+    assert!(text_of("../crates/sheet/src/lib.rt").contains(&format!("pub type SheetText = [u8; {}];", degvuurel::SHEET)));
+    assert!(header.contains(&format!("DEGVUUREL_SHEET {}\n", degvuurel::SHEET)));
+}
