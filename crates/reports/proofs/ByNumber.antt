@@ -16,7 +16,7 @@ use Rattle.station.specs.declared.Station.{Station}
 abbrev past : ℕ → ℕ
 past k = suc (suc (suc (suc (suc (suc (suc (suc k)))))))
 
-by-number : (P : ℕ → Type 0) → P 0 → P 1 → P 2 → P 3 → P 4 → P 5 → P 6 → P 7 → ((k : ℕ) → P (past k)) → (k : ℕ) → P k
+pub by-number : (P : ℕ → Type 0) → P 0 → P 1 → P 2 → P 3 → P 4 → P 5 → P 6 → P 7 → ((k : ℕ) → P (past k)) → (k : ℕ) → P k
 by-number P a b c d e f g h more zero = a
 by-number P a b c d e f g h more (suc zero) = b
 by-number P a b c d e f g h more (suc (suc zero)) = c

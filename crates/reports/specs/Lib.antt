@@ -1,3 +1,4 @@
 pub mod Answer
+pub mod Placed
 pub mod Reports
 pub mod Taken

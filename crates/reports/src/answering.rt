@@ -80,7 +80,8 @@ fn place_answer(station: Station, report: Report) -> u8
     if no_island { NO_SUCH_ISLAND } else { DONE }
 }
 
-fn names_island(kind: u8) -> bool
+// Whether a report of this kind names a track and an island.
+pub fn names_island(kind: u8) -> bool
     ensures { λ r. ⌜ r ≡ namesIsland (kindOf kind) ⌝ }
 {
     (kind == 1) | (kind == 2) | (kind == 4) | (kind == 5)

@@ -13,9 +13,12 @@ use Rattle.islands.specs.Islands.{islandAt, withinLimits}
 use Rattle.islands.specs.Lists.{any}
 use Rattle.islands.specs.declared.Track.{Track}
 use Rattle.station.specs.Aspect.{aspectOf, greatestRisk}
+use Rattle.station.specs.Clock.{holdSet}
+use Rattle.station.specs.Settled.{settledOf}
 use Rattle.station.specs.Shown.{zoneOccupied, zonesOf}
 use Rattle.station.specs.Station.{live}
 use Rattle.station.specs.Survey.{risky, surveyOf}
+use Rattle.station.specs.declared.Settled.{Settled}
 use Rattle.station.specs.declared.Station.{Station}
 use Rattle.station.specs.declared.surveying.Survey.{Survey}
 
@@ -58,6 +61,33 @@ module _ (s : Station) where
         → aspect ≡ aspectOf s
     unfolding _if_then_
     in-service v risk aspect out hold seen r lines = rw (lines, r, seen, ← aspect-is, ← e, out, hold, or-false)
+
+-- with the hold set, from one look over the tracks
+pub settled-is : (s : Station) (good out : Bool) (v : Survey) (risk : Bool) (hold line : ℕ)
+    → good ≡ withinLimits (s .settings)
+    → out ≡ not good || s .fault
+    → v ≡ surveyOf (s .settings) (live s)
+    → risk ≡ risky v
+    → hold ≡ cond risk (s .settings .t4) (s .hold)
+    → line ≡ (5 if out then 3 if risk || ltb 0 hold then 2 if v .near then 1 if v .ahead then 4 if v .held then 0)
+    → _≡_ {A = Settled} (record { hold = hold; aspect = line }) (settledOf s)
+unfolding settledOf holdSet greatestRisk surveyOf
+settled-is s good out v risk hold line eg eo ev er eh el = λ i. record { hold = held i; aspect = shown i }
+  where
+    risk-seen : risk ≡ risky (surveyOf (s .settings) (live s))
+    risk-seen = er ∙ ap risky ev
+
+    held : hold ≡ holdSet s .hold
+    held = eh ∙ ap (λ (r : Bool). cond r (s .settings .t4) (s .hold)) risk-seen
+
+    out-seen : out ≡ not (withinLimits (s .settings)) || s .fault
+    out-seen = eo ∙ ap (λ (g : Bool). not g || s .fault) eg
+
+    shown : line ≡ aspectOf (holdSet s)
+    shown =
+        el
+        ∙ (λ i. 5 if out-seen i then 3 if risk-seen i || ltb 0 (held i) then 2 if ev i .near then 1 if ev i .ahead then 4 if ev i .held then 0)
+        ∙ aspect-is (holdSet s)
 
 -- The zones that the first j tracks occupy, and with one track more. A number above four names no more tracks than four.
 abbrev pub occupiedBy : List Track → List Bool

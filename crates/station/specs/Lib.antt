@@ -5,3 +5,4 @@ pub mod Station
 pub mod Survey
 pub mod Timetable
 pub mod With
+pub mod Settled

@@ -18,6 +18,7 @@ pub use making::settings_answer;
 pub use showing::aspect;
 pub use showing::heads;
 pub use showing::presence;
+pub use showing::settle;
 pub use showing::zones;
 pub use surveying::hold_set;
 pub use surveying::is_obstructed;
@@ -31,6 +32,12 @@ pub struct Station {
     pub hold: u16,
     pub fault: bool,
     pub conditions: [u16; 2],
+}
+
+// What an accepted report leaves of the hold, and the aspect then.
+pub struct Settled {
+    pub hold: u16,
+    pub aspect: u8,
 }
 
 // The answer to settings, and the station made of them.

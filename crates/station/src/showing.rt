@@ -9,9 +9,11 @@ ghost use Rattle.islands.specs.Fresh.{present as Fresh·present};
 ghost use Rattle.islands.specs.Islands.{islandAt};
 ghost use Rattle.islands.specs.Lists.{any};
 ghost use Rattle.station.specs.Aspect.{aspectOf};
+ghost use Rattle.station.specs.Settled.{settledOf};
 ghost use Rattle.station.specs.Station.{trackAt};
 ghost use Rattle.station.specs.Shown.{headsOf, presenceOf, zonesOf};
 use crate::HeadOutputs;
+use crate::Settled;
 use crate::Station;
 use crate::TrackPresence;
 use crate::ZoneDigits;
@@ -19,6 +21,7 @@ use crate::changing::track_at;
 use crate::surveying::live_tracks;
 use crate::surveying::look_over;
 use crate::surveying::risk_in;
+use crate::ticking::held_up;
 use islands::Settings;
 use islands::Track;
 use signal::CLEARING;
@@ -46,6 +49,31 @@ pub fn aspect(station: Station) -> u8
     let seen = look_over(settings, tracks);
     let risk = risk_in(seen);
     lines(risk, seen.near, seen.ahead, seen.held)
+}
+
+// The hold of a station after an accepted report, and the aspect that it then shows. The tracks are
+// looked over once for both.
+pub fn settle(station: Station) -> Settled
+    ensures { λ r. ⌜ r ≡ settledOf station ⌝ }
+{
+    let settings = station.settings;
+    let good = islands::within_limits(settings);
+    let out = !good | station.fault;
+    let tracks = station.tracks;
+    let seen = look_over(settings, tracks);
+    let risk = risk_in(seen);
+    let hold = held_up(risk, settings.t4, station.hold);
+    let line = first_line(out, risk | (0 < hold), seen.near, seen.ahead, seen.held);
+    Settled { hold, aspect: line }
+}
+
+fn first_line(out: bool, risk: bool, near: bool, ahead: bool, held: bool) -> u8
+    ensures { λ r. ⌜ r ≡ (5 if out then 3 if risk then 2 if near then 1 if ahead then 4 if held then 0) ⌝ }
+{
+    if out {
+        return OUT_OF_SERVICE;
+    }
+    lines(risk, near, ahead, held)
 }
 
 // The lines of the rule after the first, in their order.

@@ -114,7 +114,7 @@ fn lowered(risk: bool, hold: u16) -> u16
 }
 
 // If the condition is true, the hold is set to T4.
-fn held_up(risk: bool, t4: u16, hold: u16) -> u16
+pub(crate) fn held_up(risk: bool, t4: u16, hold: u16) -> u16
     ensures { λ r. ⌜ r ≡ cond risk t4 hold ⌝ }
 {
     if risk { t4 } else { hold }
