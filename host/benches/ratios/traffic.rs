@@ -81,10 +81,10 @@ pub fn trains(tracks: u8, longest: u16, count: usize) -> Vec<Report> {
     let mut moment = 0;
     while reports.len() < count {
         for track in 0..tracks {
-            let place = (moment + 5 * usize::from(track)) % 10;
-            // A train that is under way when the first one starts begins with its next passage.
-            if moment >= 5 * usize::from(track) && (moment + 5 * usize::from(track)) / 10 >= usize::from(track) {
-                reports.push(passing(track)[place]);
+            // A track's first train starts half a passage after that of the track before.
+            let behind = 5 * usize::from(track);
+            if moment >= behind {
+                reports.push(passing(track)[(moment - behind) % 10]);
             }
         }
         if longest > 0 {
