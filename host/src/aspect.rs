@@ -48,8 +48,7 @@ impl Aspect {
     /// ```
     #[must_use]
     pub fn outputs(self) -> Outputs {
-        // SAFETY: any number is taken.
-        Outputs(unsafe { declared::degvuurel_outputs(self.number()) })
+        Outputs::of_aspect(self.number())
     }
 
     /// The aspect that the library gave. It is proved to give none above 5.
@@ -76,6 +75,20 @@ impl fmt::Display for Aspect {
 pub struct Outputs(pub(crate) u16);
 
 impl Outputs {
+    /// The nine outputs of an aspect's number, as an entry of a register holds it; a number above 5 has none.
+    ///
+    /// ```
+    /// use degvuurel::Outputs;
+    ///
+    /// assert_eq!(Outputs::of_aspect(4).bits(), 260);
+    /// assert_eq!(Outputs::of_aspect(6).bits(), 0);
+    /// ```
+    #[must_use]
+    pub fn of_aspect(number: u8) -> Outputs {
+        // SAFETY: any number is taken.
+        Outputs(unsafe { declared::degvuurel_outputs(number) })
+    }
+
     /// What these bits are; those from bit 9 up are no outputs, and no head shows them.
     #[must_use]
     pub fn of(bits: u16) -> Outputs {

@@ -87,6 +87,7 @@ extern "C" {
     pub fn degvuurel_browse(register: *const u8, length: usize, row: usize) -> Reading;
     pub fn degvuurel_forward(register: *const u8, length: usize, row: usize) -> Reading;
     pub fn degvuurel_back(register: *const u8, length: usize, row: usize) -> Reading;
+    pub fn degvuurel_entry_answer(register: *const u8, length: usize, row: usize) -> u8;
     pub fn degvuurel_entry(register: *const u8, length: usize, row: usize) -> Entry;
     pub fn degvuurel_settings_in(register: *const u8, length: usize) -> Settings;
     pub fn degvuurel_report_in(entry: *const u8, length: usize) -> Report;

@@ -75,6 +75,13 @@ impl<'a> Register<'a> {
         read_or_refused(reading).map(|reading| reading.station)
     }
 
+    /// What handing back a row is answered with: done where it has an entry.
+    #[must_use]
+    pub fn entry_answer(self, row: usize) -> Answer {
+        // SAFETY: the pointer and the length are one slice.
+        Answer::given(unsafe { declared::degvuurel_entry_answer(self.bytes.as_ptr(), self.bytes.len(), row) })
+    }
+
     /// The eight bytes of a row's entry, where they lie in the lent register; they are not replayed.
     ///
     /// ```

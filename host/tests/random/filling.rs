@@ -1,0 +1,114 @@
+//! Filling a register by both sides.
+
+use crate::cases::Case;
+use crate::paper;
+use crate::runs::Bench;
+use crate::tally::{Asked, Tally};
+use crate::values::{self, answer, same, same_bytes, seen};
+use crate::words::Seen;
+use degvuurel::{append, start, Recorder, Report, Settings, Station, ENTRY, HEADER};
+
+/// What both sides fill: lent bytes, and the station after the last entry.
+#[derive(Clone)]
+pub struct Filled {
+    pub bytes: Vec<u8>,
+    pub station: Station,
+}
+
+/// Starts a register and appends every report, by both, and compares all of it after each.
+pub fn fill(case: &Case, bench: &mut Bench) -> Result<Filled, String> {
+    let mut bytes = vec![case.filling; HEADER + ENTRY * case.reports.len() + case.beyond];
+    start_both(&mut bytes, case.settings, &mut bench.tally)?;
+    let station = made_by_both(case.settings, &mut bench.tally)?.ok_or("the settings are refused")?;
+    let mut filled = Filled { bytes, station };
+    for (k, &report) in case.reports.iter().enumerate() {
+        append_both(&mut filled, k, report, &mut bench.tally)?;
+        shown_by_both(&filled.station, &mut bench.tally).map_err(|difference| format!("after entry {}: {difference}", k + 1))?;
+    }
+    bench.tally.registers += 1;
+    bench.tally.reports += case.reports.len() as u64;
+    Ok(filled)
+}
+
+/// Starts a register by both.
+pub fn start_both(bytes: &mut [u8], settings: Settings, tally: &mut Tally) -> Result<(), String> {
+    let mut papers = bytes.to_vec();
+    let answers = (answer(&start(bytes, settings)), paper::start(&mut papers, values::settings(settings)));
+    tally.count(Asked::Start, answers.1);
+    same(format_args!("starting, answer"), &answers.0, &answers.1)?;
+    same_bytes(format_args!("starting"), bytes, &papers)
+}
+
+/// Makes a station by both. Refused, the package hands out none.
+pub fn made_by_both(settings: Settings, tally: &mut Tally) -> Result<Option<Station>, String> {
+    let made = Station::make(settings);
+    let (number, fresh) = paper::make(values::settings(settings));
+    tally.count(Asked::Make, number);
+    same(format_args!("what settings are answered with"), &paper::settings_answer(values::settings(settings)), &number)?;
+    same(format_args!("making, answer"), &answer(&made), &number)?;
+    if let Ok(station) = &made {
+        same(format_args!("making, station"), &seen(station), &Seen(fresh))?;
+    }
+    Ok(made.ok())
+}
+
+/// Appends a report by both.
+pub fn append_both(filled: &mut Filled, k: usize, report: Report, tally: &mut Tally) -> Result<(), String> {
+    let mut papers = filled.bytes.clone();
+    let mut of_paper = values::station(&filled.station);
+    let outcome = append(&mut filled.bytes, k, &mut filled.station, report);
+    let number = outcome.map_or_else(|refusal| refusal.number(), |answer| answer.number());
+    let expected = paper::append(&mut papers, k, &mut of_paper, values::report(report));
+    tally.count(Asked::Append, expected);
+    same(format_args!("appending {report} at {k}, answer"), &number, &expected)?;
+    same(format_args!("appending {report} at {k}, station"), &seen(&filled.station), &Seen(of_paper))?;
+    same_bytes(format_args!("appending {report} at {k}"), &filled.bytes, &papers)
+}
+
+/// Takes a report by both, having asked what it would be answered with.
+pub fn take_both(station: &mut Station, report: Report, tally: &mut Tally) -> Result<(), String> {
+    let mut of_paper = values::station(station);
+    let asked = (station.answer(report).number(), of_paper.answer(values::report(report)));
+    same(format_args!("what {report} would be answered with"), &asked.0, &asked.1)?;
+    let answers = (answer(&station.take(report)), of_paper.take(values::report(report)));
+    tally.count(Asked::Take, answers.1);
+    tally.reports += 1;
+    same(format_args!("taking {report}, answer"), &answers.0, &answers.1)?;
+    same(format_args!("taking {report}, station"), &seen(station), &Seen(of_paper))
+}
+
+/// What a station shows, by both.
+pub fn shown_by_both(station: &Station, tally: &mut Tally) -> Result<(), String> {
+    let of_paper = values::station(station);
+    let aspect = station.aspect();
+    tally.show(of_paper.aspect());
+    same(format_args!("aspect"), &aspect.number(), &of_paper.aspect())?;
+    same(format_args!("outputs"), &aspect.outputs().bits(), &paper::outputs(of_paper.aspect()))?;
+    same(format_args!("heads"), &station.heads().map(|outputs| outputs.bits()), &of_paper.heads())?;
+    same(format_args!("zones"), &station.zones(), &of_paper.zones())?;
+    same(format_args!("presence"), &station.presence(), &of_paper.presence())
+}
+
+/// A recorder fills the same register, stops half way and goes on.
+pub fn record(case: &Case, filled: &Filled) -> Result<(), String> {
+    let end = HEADER + ENTRY * case.reports.len();
+    let mut bytes = vec![case.filling; filled.bytes.len()];
+    let (first, second) = case.reports.split_at(case.reports.len() / 2);
+    let mut recorder = Recorder::start(&mut bytes, case.settings).map_err(|refusal| refusal.to_string())?;
+    for &report in first {
+        recorder.append(report).map_err(|refusal| refusal.to_string())?;
+    }
+    let half = recorder.register().bytes().len();
+    let mut recorder = Recorder::resume(&mut bytes, half).map_err(|refusal| refusal.to_string())?;
+    for &report in second {
+        recorder.append(report).map_err(|refusal| refusal.to_string())?;
+    }
+    // Where there is room for no other entry, the recorder stays as it is.
+    if case.beyond < ENTRY {
+        same(format_args!("recorder, answer without room"), &answer(&recorder.append(Report::normalise())), &12)?;
+    }
+    same(format_args!("recorder, count"), &recorder.count(), &case.reports.len())?;
+    same(format_args!("recorder, station"), &seen(recorder.station()), &seen(&filled.station))?;
+    same_bytes(format_args!("recorder, register"), recorder.register().bytes(), &filled.bytes[..end])?;
+    same_bytes(format_args!("recorder, lent bytes"), &bytes, &filled.bytes)
+}

@@ -1,0 +1,180 @@
+//! Reading, stepping through, handing back, browsing and printing any bytes by both sides.
+
+use crate::chance::Chance;
+use crate::lines;
+use crate::paper;
+use crate::runs::Bench;
+use crate::tally::{Asked, Tally};
+use crate::values::{answer, number_at, report_of, same, same_bytes, Outcome};
+use degvuurel::{print, report_in, Browser, Refusal, Register, Settings, Station, ENTRY, HEADER};
+
+/// Registers of more entries are stepped to a sample of their rows: stepping to every row takes the square of their number.
+const STEPPED_WHOLE: usize = 700;
+const SAMPLE: usize = 40;
+
+/// One register in so many has its sheet in a string, and all the room for a sheet looked at. For each the room is filled anew.
+const SHEETS: usize = 50;
+
+/// What both sides make of these bytes.
+pub fn compare(bytes: &[u8], seed: u64, bench: &mut Bench) -> Result<(), String> {
+    let mut chance = Chance::from(seed);
+    let register = Register::new(bytes);
+    let read = Outcome::of_paper(paper::read(bytes));
+    bench.tally.count(Asked::Read, read.answer);
+    same(format_args!("reading"), &Outcome::of_reading(register.read()), &read)?;
+    same(format_args!("the header's settings"), &register.settings(), &settings_of(bytes))?;
+    let entries = bytes.len().saturating_sub(HEADER) / ENTRY;
+    for row in rows(entries, &mut chance) {
+        step(register, row, &mut bench.tally)?;
+        hand_back(register, row, &mut bench.tally)?;
+    }
+    browse(register, entries, &mut chance, &mut bench.tally)?;
+    let whole = chance.one_in(SHEETS);
+    if whole {
+        sheet(register)?;
+    }
+    print_both(bytes, &read, whole, bench)
+}
+
+/// Every row, or a sample of them, and rows past the last.
+fn rows(entries: usize, chance: &mut Chance) -> Vec<usize> {
+    let mut rows: Vec<usize> = if entries <= STEPPED_WHOLE {
+        (0..=entries).collect()
+    } else {
+        let sample = (0..SAMPLE).map(|_| chance.below(entries + 1));
+        sample.chain([0, 1, 2, entries - 1, entries]).collect()
+    };
+    rows.extend([entries + 1, entries + 2 + chance.below(9000), usize::MAX - chance.below(2), usize::MAX / 8 + 1]);
+    rows
+}
+
+fn settings_of(bytes: &[u8]) -> Settings {
+    let [t1, t2, t3, t4, t5] = [6, 8, 10, 12, 14].map(|at| number_at(bytes, at));
+    Settings { tracks: bytes.get(5).copied().unwrap_or(0), t1, t2, t3, t4, t5 }
+}
+
+fn step(register: Register, row: usize, tally: &mut Tally) -> Result<(), String> {
+    let expected = Outcome::of_paper(paper::step(register.bytes(), row));
+    tally.count(Asked::Step, expected.answer);
+    tally.rows += 1;
+    same(format_args!("stepping to row {row}"), &Outcome::of_step(register.step(row), row), &expected)
+}
+
+/// Both hand back the same part of the lent register, not merely equal bytes.
+fn hand_back(register: Register, row: usize, tally: &mut Tally) -> Result<(), String> {
+    let handed = register.entry(row);
+    let (number, part) = paper::entry(register.bytes(), row);
+    tally.count(Asked::Entry, number);
+    same(format_args!("handing back row {row}, answer"), &answer(&handed), &number)?;
+    same(format_args!("handing back row {row}, answer alone"), &register.entry_answer(row).number(), &number)?;
+    if let Ok(bytes) = handed {
+        same(format_args!("handing back row {row}, where it lies"), &bytes.as_ptr_range(), &part.as_ptr_range())?;
+        same(format_args!("the report of row {row}"), &report_in(bytes), &report_of(part))?;
+        let cut = &bytes[..row % ENTRY];
+        same(format_args!("the report of row {row}, cut"), &report_in(cut), &report_of(cut))?;
+    }
+    Ok(())
+}
+
+/// A browser and where it should stand.
+struct Walk<'a> {
+    browser: Browser<'a>,
+    place: usize,
+}
+
+/// Back from row 0 there is no row: it answers as stepping to a row that no register has.
+const NO_ROW: usize = usize::MAX;
+
+impl Walk<'_> {
+    fn moved(&mut self, word: &str, row: usize, shown: Result<Station, Refusal>, tally: &mut Tally) -> Result<(), String> {
+        let expected = Outcome::of_paper(paper::step(self.browser.register().bytes(), row));
+        tally.count(Asked::Browse, expected.answer);
+        same(format_args!("browsing {word} from row {}", self.place), &Outcome::of_step(shown, row), &expected)?;
+        if expected.answer == 0 {
+            self.place = row;
+        }
+        same(format_args!("browsing {word}, the place after"), &self.browser.row(), &self.place)
+    }
+
+    fn jump(&mut self, row: usize, tally: &mut Tally) -> Result<(), String> {
+        let shown = self.browser.to_row(row);
+        self.moved("to a row", row, shown, tally)
+    }
+
+    fn forward(&mut self, tally: &mut Tally) -> Result<(), String> {
+        let shown = self.browser.forward();
+        self.moved("forward", self.place + 1, shown, tally)
+    }
+
+    fn back(&mut self, tally: &mut Tally) -> Result<(), String> {
+        let shown = self.browser.back();
+        self.moved("back", self.place.checked_sub(1).unwrap_or(NO_ROW), shown, tally)
+    }
+
+    /// What it shows of the row that it stands on.
+    fn look(&self) -> Result<(), String> {
+        let (bytes, place) = (self.browser.register().bytes(), self.place);
+        let expected = Outcome::of_paper(paper::step(bytes, place));
+        same(format_args!("looking at row {place}"), &Outcome::of_step(self.browser.station(), place), &expected)?;
+        let (number, part) = paper::entry(bytes, place);
+        let handed = self.browser.entry();
+        same(format_args!("the entry that a browser stands on, answer"), &answer(&handed), &number)?;
+        let lies = handed.map_or(part.as_ptr_range(), |bytes| bytes.as_ptr_range());
+        same(format_args!("the entry that a browser stands on"), &lies, &part.as_ptr_range())
+    }
+}
+
+/// A walk through the register: back from row 0, forward from the last row, rows past it, and some moves by chance.
+fn browse(register: Register, entries: usize, chance: &mut Chance, tally: &mut Tally) -> Result<(), String> {
+    let mut walk = Walk { browser: register.browse(), place: 0 };
+    walk.back(tally)?;
+    walk.forward(tally)?;
+    walk.jump(entries, tally)?;
+    walk.forward(tally)?;
+    walk.back(tally)?;
+    for _ in 0..chance.below(6) {
+        match chance.below(4) {
+            0 => walk.back(tally)?,
+            1 => walk.forward(tally)?,
+            2 => walk.jump(chance.below(entries + 1), tally)?,
+            _ => walk.jump(entries + 1 + chance.below(9000), tally)?,
+        }
+    }
+    walk.look()
+}
+
+/// What the room for a sheet holds before. No sheet has this byte.
+const UNTOUCHED: u8 = 0xEE;
+
+/// So many bytes after a sheet are looked at in every case; all of them would take longer than the rest.
+const LOOKED_AT_BEYOND: usize = 256;
+
+/// Both print the same, and the library writes no byte beyond it.
+fn print_both(bytes: &[u8], read: &Outcome, whole: bool, bench: &mut Bench) -> Result<(), String> {
+    let expected = paper::print(bytes);
+    let near = (expected.len() + LOOKED_AT_BEYOND).min(bench.text.len());
+    let end = if whole { bench.text.len() } else { near };
+    bench.text[..end].fill(UNTOUCHED);
+    let printed = print(bytes, &mut bench.text).len();
+    let number = number_printed(&expected);
+    bench.tally.count(Asked::Print, number);
+    same_bytes(format_args!("printing"), &bench.text[..printed], &expected)?;
+    let beyond = bench.text[printed..end].iter().filter(|&&byte| byte != UNTOUCHED).count();
+    same(format_args!("printing, bytes touched beyond"), &beyond, &0)?;
+    if read.answer == 0 && bytes.len() < HEADER + ENTRY * STEPPED_WHOLE {
+        lines::of_sheet(bytes, &expected)?;
+    }
+    Ok(())
+}
+
+/// A sheet in a string of its own is the same.
+fn sheet(register: Register) -> Result<(), String> {
+    same_bytes(format_args!("a sheet in a string"), register.sheet().as_bytes(), &paper::print(register.bytes()))
+}
+
+/// The number of `refused 9` or `refused 13 at 2`, or 0 of a sheet.
+fn number_printed(text: &[u8]) -> u8 {
+    let text = str::from_utf8(text).unwrap_or_default();
+    let number = text.strip_prefix("refused ").and_then(|rest| rest.split_whitespace().next());
+    number.and_then(|number| number.parse().ok()).unwrap_or(0)
+}

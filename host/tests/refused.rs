@@ -1,0 +1,77 @@
+//! What a refused making, reading and stepping return beside their numbers, which the wrapper does not hand on: a fresh station of
+//! one track, with T1 to T4 equal to 1 and T5 to 2, and count 0.
+
+// The declarations are the package's own file, which names its structs by these paths.
+#[allow(dead_code)]
+#[path = "../src/declared.rs"]
+mod declared;
+mod report {
+    pub use degvuurel::Report;
+}
+mod sheet {
+    pub use degvuurel::{RowFields, SheetText};
+}
+mod siting {
+    pub use degvuurel::{Metres, Seconds};
+}
+mod station {
+    pub use degvuurel::{Settings, Station};
+}
+
+use degvuurel::{Settings, Station};
+use std::fs;
+use std::path::Path;
+
+const LEAST: Settings = Settings { tracks: 1, t1: 1, t2: 1, t3: 1, t4: 1, t5: 2 };
+
+fn least() -> Station {
+    Station::make(LEAST).expect("the least settings are within the limits")
+}
+
+#[test]
+fn a_refused_making() {
+    let good = Settings { tracks: 4, t1: 9, t2: 8, t3: 7, t4: 6, t5: 9 };
+    let bad = [
+        Settings { tracks: 0, ..good },
+        Settings { tracks: 5, ..good },
+        Settings { tracks: 255, ..good },
+        Settings { t1: 0, ..good },
+        Settings { t2: 0, ..good },
+        Settings { t3: 0, ..good },
+        Settings { t5: 8, ..good },
+    ];
+    for settings in bad {
+        // SAFETY: any settings are taken.
+        let made = unsafe { declared::degvuurel_make(settings) };
+        assert_eq!((made.answer, made.station), (8, least()), "{settings:?}");
+    }
+}
+
+/// An example with each of its bits turned in turn: most are refused, and each refusal returns the same.
+#[test]
+fn a_refused_reading_and_stepping() {
+    let example = Path::new(env!("CARGO_MANIFEST_DIR")).join("../examples/two_trains.cea");
+    let mut bytes = fs::read(example).expect("the example is there");
+    let mut refused = [0; 15];
+    for bit in 0..bytes.len() * 8 {
+        bytes[bit / 8] ^= 1 << (bit % 8);
+        for row in [0, 1, 14, 27, 28, usize::MAX] {
+            // SAFETY: the pointer and the length are one slice.
+            let [read, step, ahead, before] = unsafe {
+                [
+                    declared::degvuurel_read(bytes.as_ptr(), bytes.len()),
+                    declared::degvuurel_step(bytes.as_ptr(), bytes.len(), row),
+                    declared::degvuurel_forward(bytes.as_ptr(), bytes.len(), row),
+                    declared::degvuurel_back(bytes.as_ptr(), bytes.len(), row),
+                ]
+            };
+            for reading in [read, step, ahead, before].iter().filter(|reading| reading.answer != 0) {
+                refused[usize::from(reading.answer)] += 1;
+                assert_eq!((reading.count, reading.station), (0, least()), "bit {bit}, row {row}");
+                assert_eq!(reading.entry != 0, reading.answer == 13, "bit {bit}, row {row}");
+            }
+        }
+        bytes[bit / 8] ^= 1 << (bit % 8);
+    }
+    assert!([8, 9, 10, 13, 14].iter().all(|&answer: &usize| refused[answer] > 100), "{refused:?}");
+}
