@@ -1,6 +1,6 @@
 -- Where an entry handed back lies in its register: what each way through the code returns is what the definition says.
 -- Assumes nothing.
-use Prim.Native.Nat.{ℕ, _-_, _+_, _*_, _≤_}
+use Prim.Native.Nat.{ℕ, _-_, _≤_}
 use native.Mathlib.Omega.{arith}
 use mathlib.Core.Path.{_≡_, refl, sym, ap, _∙_}
 use mathlib.Core.List.{List}

@@ -63,19 +63,24 @@ value-alone r =
     (λ a b c. absurd (c refl))
     (λ k a b c. refl)
 
-pub never-already : (i : Island) (k : ℕ) → (k ≡ 1 → ⊥) → (k ≡ 2 → ⊥) → (k ≡ 4 → ⊥) → (k ≡ 5 → ⊥) → false ≡ already (kindOf k) i
-unfolding kindOf
-never-already i =
-    by-number (λ k. (k ≡ 1 → ⊥) → (k ≡ 2 → ⊥) → (k ≡ 4 → ⊥) → (k ≡ 5 → ⊥) → false ≡ already (kindOf k) i)
-    (λ a b c d. refl)
+-- What holds of the kinds that name no island.
+pub no-island : (P : ℕ → Type 0) → P 0 → P 3 → P 6 → P 7 → ((k : ℕ) → P (past k))
+    → (k : ℕ) → (k ≡ 1 → ⊥) → (k ≡ 2 → ⊥) → (k ≡ 4 → ⊥) → (k ≡ 5 → ⊥) → P k
+no-island P none clock head normal more =
+    by-number (λ k. (k ≡ 1 → ⊥) → (k ≡ 2 → ⊥) → (k ≡ 4 → ⊥) → (k ≡ 5 → ⊥) → P k)
+    (λ a b c d. none)
     (λ a b c d. absurd (a refl))
     (λ a b c d. absurd (b refl))
-    (λ a b c d. refl)
+    (λ a b c d. clock)
     (λ a b c d. absurd (c refl))
     (λ a b c d. absurd (d refl))
-    (λ a b c d. refl)
-    (λ a b c d. refl)
-    (λ k a b c d. refl)
+    (λ a b c d. head)
+    (λ a b c d. normal)
+    (λ k a b c d. more k)
+
+pub never-already : (i : Island) (k : ℕ) → (k ≡ 1 → ⊥) → (k ≡ 2 → ⊥) → (k ≡ 4 → ⊥) → (k ≡ 5 → ⊥) → false ≡ already (kindOf k) i
+unfolding kindOf
+never-already i = no-island (λ k. false ≡ already (kindOf k) i) refl refl refl refl (λ k. refl)
 
 -- Only normalise is blocked.
 pub not-blocked : (s : Station) (k : ℕ) → (k ≡ 7 → ⊥) → blocked (kindOf k) s ≡ false

@@ -1,6 +1,5 @@
 -- `first_line`: out of service is the first line of the rule.
 -- Assumes nothing.
-use mathlib.Core.Path.{sym}
 use Rattle.answers.proofs.Chains.{passes, refuses}
 use borrow.Author.Needs.{needs}
 use Rattle.station.proofs.showing.first_line.Statement.{statement}
