@@ -10,9 +10,10 @@ use lib.Dec.{ltb}
 use lib.ListN.{getD, length, length-map, set, List·getD-map}
 use lib.Seq.{getD-set-other}
 use Rattle.answers.specs.FirstRefusal.{_if_then_, _▷_}
-use Rattle.demands.proofs.ApartLaws.{after-any, aspectIn}
+use Rattle.demands.proofs.ApartLaws.{aspectIn}
 use Rattle.islands.proofs.Listed.{getD-same}
 use Rattle.islands.specs.Islands.{withinLimits}
+use Rattle.reports.proofs.Accepted.{after-any}
 use Rattle.reports.specs.Answer.{answerOf}
 use Rattle.reports.specs.Reports.{Kind, acted, clock, detectorFailed, detectorRestored, headCondition, islandFree, islandOccupied, kindOf, noKind, normalise}
 use Rattle.reports.specs.Taken.{stationAfter}

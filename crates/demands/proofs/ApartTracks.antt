@@ -12,7 +12,7 @@ use lib.ListN.{getD, set, replicate}
 use lib.Seq.{drop-set-lt, getD-take, take-set-lt}
 use Rattle.answers.proofs.Chains.{same-order}
 use Rattle.answers.specs.FirstRefusal.{_if_then_}
-use Rattle.demands.proofs.ApartLaws.{Below, accepted-below, after-any, aspectIn, place-below, refused-keeps}
+use Rattle.demands.proofs.ApartLaws.{aspectIn, refused-keeps}
 use Rattle.demands.specs.Agree.{Agree}
 use Rattle.islands.proofs.Below.{changed-drop, changed-take}
 use Rattle.islands.specs.Ageing.{late, olderTrack}
@@ -23,6 +23,7 @@ use Rattle.islands.specs.Mark.{detectorNow, freeNow, occupiedNow, withIsland}
 use Rattle.islands.specs.declared.Island.{Island}
 use Rattle.islands.specs.declared.Settings.{Settings}
 use Rattle.islands.specs.declared.Track.{Track}
+use Rattle.reports.proofs.Accepted.{Below, accepted-below, after-any, place-below}
 use Rattle.reports.proofs.Taking.{after-accepted}
 use Rattle.reports.specs.Answer.{already, answerOf, blocked, namesHead, namesIsland, placeAnswer, stateAnswer}
 use Rattle.reports.specs.Reports.{Kind, acted, clock, detectorFailed, detectorRestored, headCondition, islandFree, islandOccupied, kindOf, namedIsland, namedTrack, noKind, normalise, withNamed}

@@ -4,7 +4,6 @@ pub mod ApartTracks
 pub mod BrowseBack
 pub mod BrowseRows
 pub mod Computed
-pub mod FiveIslands
 pub mod HouseRows
 pub mod Idle
 pub mod Once

@@ -12,7 +12,6 @@ use Rattle.answers.proofs.Chains.{both}
 use Rattle.answers.specs.FirstRefusal.{_if_then_}
 use Rattle.answers.specs.Limits.{within}
 use Rattle.demands.proofs.ApartLaws.{aspectIn, refused-keeps}
-use Rattle.demands.proofs.FiveIslands.{Five, five-take}
 use Rattle.demands.proofs.Reached.{Kept, kept-after, reached-keeps}
 use Rattle.demands.specs.Quiet.{NotStuck, Quiet, Reached, accepted, afterAll, clockGone, greatest, isClock, isHead, longEnough, settled}
 use Rattle.islands.proofs.Below.{any-alike, any-map, any-none}
@@ -25,6 +24,7 @@ use Rattle.islands.specs.Lists.{any}
 use Rattle.islands.specs.Turns.{laterTrack}
 use Rattle.islands.specs.declared.Settings.{Settings}
 use Rattle.islands.specs.declared.Track.{Track}
+use Rattle.reports.proofs.FiveIslands.{Five, five-take}
 use Rattle.reports.proofs.Taking.{after-accepted, meant}
 use Rattle.reports.specs.Answer.{answerOf}
 use Rattle.reports.specs.Reports.{acted, clock, headCondition, kindOf}
@@ -126,15 +126,15 @@ module _ (c : Settings) (n : ℕ) (limit : (z : Zone) → timer c z ≤ 65535) (
 
 settled-then : (s : Station) → Kept s → (n : ℕ) → longEnough (s .settings) ≤ n → aspectOf (ticks n s) ≡ settled (s .fault) s
 unfolding aspectOf _if_then_
-settled-then s k zero long = let over : 1 ≤ s .settings .t5 = limits (s .settings) (k .within) .2 in let none : ⊥ = omega arith in absurd none
+settled-then s k zero long = let over : 1 ≤ s .settings .t5 = limits (s .settings) (k .shape .within) .2 in let none : ⊥ = omega arith in absurd none
 settled-then s k (suc m) long =
     (λ i. aspectIn (ticks-settings n s i) (ticks-live n s i) (fault i) (at-rest i))
     ∙ λ i.
-    5 if not (k .within i) then
+    5 if not (k .shape .within i) then
     5 if s .fault || any warningOccupied (live s) then
     2 if none (freshNear c) (λ t. no-near-then c n t limit reached) i then
     1 if none (freshAdvance c) (λ t. no-advance-then c n t limit reached) i then
-    4 if held-then c n limit reached (live s) (five-take (c .tracks) (s .tracks) (k .five)) i then
+    4 if held-then c n limit reached (live s) (five-take (c .tracks) (s .tracks) (k .shape .five)) i then
     0
   where
     n : ℕ
@@ -144,7 +144,7 @@ settled-then s k (suc m) long =
     c = s .settings
 
     limit : (z : Zone) → timer c z ≤ 65535
-    limit = limits c (k .within) .0
+    limit = limits c (k .shape .within) .0
 
     slowest : (z : Zone) → timer c z ≤ greatest c
     slowest advance = omega arith
@@ -155,7 +155,7 @@ settled-then s k (suc m) long =
     reached z = omega (arith, slowest z, long)
 
     fault : ticks n s .fault ≡ s .fault || any warningOccupied (live s)
-    fault = fault-then s (limits c (k .within) .1) m (omega (arith, long))
+    fault = fault-then s (limits c (k .shape .within) .1) m (omega (arith, long))
 
     at-rest : greatestRisk (ticks n s) || ltb 0 (ticks n s .hold) ≡ false
     at-rest = ap₂ _||_ (no-risk-then s limit n reached) (le-ltb 0 (ticks n s .hold) (omega (arith, long, hold-falls s limit (greatest c) slowest (k .most) n)))

@@ -9,8 +9,8 @@ use lib.Dec.{leb, ltb}
 use lib.ListN.{replicate, take}
 use Rattle.answers.proofs.Chains.{neither}
 use Rattle.answers.specs.Limits.{within}
-use Rattle.demands.proofs.ApartLaws.{after-any}
-use Rattle.demands.proofs.FiveIslands.{Five, five-named, five-older}
+use Rattle.reports.proofs.Accepted.{after-any}
+use Rattle.reports.proofs.Shape.{Shaped, shaped-fresh, shaped-named, shaped-older}
 use Rattle.demands.specs.Quiet.{Reached, afterAll}
 use Rattle.islands.specs.Fresh.{present, someFresh}
 use Rattle.islands.specs.Islands.{freeTrack, withinLimits}
@@ -28,15 +28,14 @@ use Rattle.station.specs.declared.Station.{Station}
 
 -- The hold never exceeds T4, and is T4 where the condition is true.
 pub record Kept (s : Station) : Type 0 where
-  pub within : withinLimits (s .settings) ≡ true
+  pub shape : Shaped s
   pub most : s .hold ≤ s .settings .t4
   pub full : greatestRisk s ≡ true → s .hold ≡ s .settings .t4
-  pub five : Five (s .tracks)
 
 -- once the hold is set it is full where the condition is true
-kept-set : (s : Station) → withinLimits (s .settings) ≡ true → s .hold ≤ s .settings .t4 → Five (s .tracks) → Kept (holdSet s)
+kept-set : (s : Station) → Shaped s → s .hold ≤ s .settings .t4 → Kept (holdSet s)
 unfolding holdSet greatestRisk
-kept-set s w h f = record { within = w; most = most (greatestRisk s); full = λ e. ap (λ (b : Bool). cond b (s .settings .t4) (s .hold)) e; five = f }
+kept-set s w h = record { shape = w; most = most (greatestRisk s); full = λ e. ap (λ (b : Bool). cond b (s .settings .t4) (s .hold)) e }
   where
     most : (b : Bool) → cond b (s .settings .t4) (s .hold) ≤ s .settings .t4
     most true = omega arith
@@ -44,7 +43,7 @@ kept-set s w h f = record { within = w; most = most (greatestRisk s); full = λ 
 
 kept-tick : (s : Station) → Kept s → Kept (tick s)
 unfolding tick faultLatched allOlder holdLowered
-kept-tick s k = kept-set (faultLatched (allOlder (holdLowered s))) (k .within) (lower (not (greatestRisk s) && ltb 0 (s .hold))) (five-older s (k .five))
+kept-tick s k = kept-set (faultLatched (allOlder (holdLowered s))) (shaped-older s (k .shape)) (lower (not (greatestRisk s) && ltb 0 (s .hold)))
   where
     lower : (b : Bool) → cond b (s .hold - 1) (s .hold) ≤ s .settings .t4
     lower true = omega (arith, k .most)
@@ -57,7 +56,7 @@ kept-ticks (suc n) s k = kept-tick (ticks n s) (kept-ticks n s k)
 
 kept-named : (s : Station) (r : Report) (i : Island) (fault : Bool) → Kept s → Kept (holdSet (withFault (withNamed s r i) fault))
 unfolding withTrack
-kept-named s r i fault k = kept-set _ (k .within) (k .most) (five-named s (r .a) (r .b) i (k .five))
+kept-named s r i fault k = kept-set _ (shaped-named s r i (k .shape)) (k .most)
 
 kept-acted : (s : Station) (r : Report) (k : Kind) → Kept s → Kept (acted k s r)
 unfolding acted withTrack withCondition
@@ -66,8 +65,8 @@ kept-acted s r islandFree k = kept-named s r _ (s .fault) k
 kept-acted s r clock k = kept-ticks (r .value) s k
 kept-acted s r detectorFailed k = kept-named s r _ true k
 kept-acted s r detectorRestored k = kept-named s r _ (s .fault) k
-kept-acted s r headCondition k = kept-set _ (k .within) (k .most) (k .five)
-kept-acted s r normalise k = kept-set _ (k .within) (omega arith) (k .five)
+kept-acted s r headCondition k = kept-set _ (k .shape) (k .most)
+kept-acted s r normalise k = kept-set _ (k .shape) (omega arith)
 kept-acted s r noKind k = k
 
 pub kept-after : (s : Station) (r : Report) → Kept s → Kept (stationAfter s r)
@@ -84,14 +83,9 @@ none-of-few p (suc n) [] e = refl
 none-of-few p (suc n) (x ∷ l) e = let (first, rest) = neither (p x) (any p l) e in ap₂ _||_ first (none-of-few p n l rest)
 
 kept-fresh : (c : Settings) → withinLimits c ≡ true → Kept (freshStation c)
-unfolding freshStation greatestRisk someFresh Five
+unfolding freshStation greatestRisk someFresh
 kept-fresh c w =
-    record {
-      within = w;
-      most = omega arith;
-      full = λ e. absurd (false≢true (sym no-risk ∙ e));
-      five = (refl, (refl, (refl, (refl, tt))));
-    }
+    record { shape = shaped-fresh c w; most = omega arith; full = λ e. absurd (false≢true (sym no-risk ∙ e)) }
   where
     no-risk : any (someFresh c) (take (c .tracks) (replicate 4 freeTrack)) && leb 2 (count (present c) (take (c .tracks) (replicate 4 freeTrack))) ≡ false
     no-risk = ap (λ (b : Bool). b && leb 2 (count (present c) (take (c .tracks) (replicate 4 freeTrack)))) (none-of-few (someFresh c) (c .tracks) (replicate 4 freeTrack) refl)

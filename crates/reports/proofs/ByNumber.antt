@@ -13,7 +13,7 @@ use Rattle.reports.specs.declared.Report.{Report}
 use Rattle.station.specs.declared.Station.{Station}
 
 -- the eighth number after k
-abbrev past : ℕ → ℕ
+abbrev pub past : ℕ → ℕ
 past k = suc (suc (suc (suc (suc (suc (suc (suc k)))))))
 
 pub by-number : (P : ℕ → Type 0) → P 0 → P 1 → P 2 → P 3 → P 4 → P 5 → P 6 → P 7 → ((k : ℕ) → P (past k)) → (k : ℕ) → P k
@@ -27,7 +27,7 @@ by-number P a b c d e f g h more (suc (suc (suc (suc (suc (suc zero)))))) = g
 by-number P a b c d e f g h more (suc (suc (suc (suc (suc (suc (suc zero))))))) = h
 by-number P a b c d e f g h more (suc (suc (suc (suc (suc (suc (suc (suc k)))))))) = more k
 
-other : (k j : ℕ) → j < 8 → eqb (past k) j ≡ false
+pub other : (k j : ℕ) → j < 8 → eqb (past k) j ≡ false
 other k j h = ne-eqb (past k) j (λ e. omega arith)
 
 pub is-known : (k : ℕ) → leb 1 k && leb k 7 ≡ known (kindOf k)

@@ -1,3 +1,6 @@
 pub mod ByNumber
 pub mod InPlace
 pub mod Taking
+pub mod Accepted
+pub mod FiveIslands
+pub mod Shape

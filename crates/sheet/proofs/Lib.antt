@@ -3,3 +3,6 @@ pub mod Lengths
 pub mod Placing
 pub mod Spelling
 pub mod Sheets
+pub mod Occupying
+pub mod Counted
+pub mod Counts

@@ -1,4 +1,5 @@
 // The lines of a sheet, and the sheet of a register, as bytes in a buffer that the caller lends.
+mod counting;
 mod lines;
 mod printing;
 mod text;

@@ -46,7 +46,7 @@ five-set [] a t f e = f
 five-set (u ∷ l) zero t f e = (e, f .1)
 five-set (u ∷ l) (suc a) t f e = (f .0, five-set l a t (f .1) e)
 
-five-get : (l : List Track) (a : ℕ) → Five l → length (getD l a freeTrack .islands) ≡ 5
+pub five-get : (l : List Track) (a : ℕ) → Five l → length (getD l a freeTrack .islands) ≡ 5
 unfolding Five
 five-get [] a f = refl
 five-get (t ∷ l) zero f = f .0
