@@ -37,8 +37,10 @@ fn recording_printing_and_stepping_back() {
     let settings = text.find("tracks").expect("the text has settings");
     shows(&first(13, &text[settings..]));
     let recorded = run("record", &["examples/two_trains.txt", &register], b"");
+    assert_eq!(recorded.status, 0);
     shows(&recorded.stderr);
     let misread = run("record", &[], b"tracks 2\nt1 300\nt2 300\nt3 300\nt4 50\nt5 600\n\nocupied 0 4\n");
+    assert_eq!(misread.status, 1);
     shows(&misread.stderr);
     let sheet = run("print_sheet", &[&register], b"");
     shows(&first(6, &String::from_utf8_lossy(&sheet.stdout)));
