@@ -56,7 +56,7 @@ fn time(calls: usize, work: &mut impl FnMut() -> u64) -> Duration {
     start.elapsed()
 }
 
-/// What is compared of a station: something that depends on each part of it.
+/// What is compared of a station here: its hold, its fault and the ages. The tests compare all of it.
 fn sum(hold: u16, fault: bool, ages: impl Iterator<Item = u16>) -> u64 {
     ages.fold(u64::from(hold) * 2 + u64::from(fault), |sum, age| sum.wrapping_mul(31).wrapping_add(u64::from(age)))
 }
@@ -143,6 +143,7 @@ fn registers() {
             || library_sum(&register.step(4095).expect("there is such a row")),
             || paper_sum(&paper::step(black_box(&bytes), 4095).station),
         );
+        assert_eq!(degvuurel::print(&bytes, &mut text).as_bytes(), paper::print(&bytes), "the sheets of {name} differ");
         line(
             &format!("a row printed, of 8,190: {name}"),
             8190,
