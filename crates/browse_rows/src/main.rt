@@ -3,12 +3,12 @@
 // row's line is the one that the sheet has for it: a row stepped back to is the row as it was.
 mod showing;
 
-use answers::DONE;
-use answers::NO_ROOM;
 use libc::STDIN_FILENO;
-use register::ENTRY;
-use register::HEADER;
-use register::MOST;
+use rules::DONE;
+use rules::ENTRY;
+use rules::HEADER;
+use rules::MOST;
+use rules::NO_ROOM;
 use showing::row;
 
 fn main() {

@@ -1,8 +1,8 @@
 // The lines, each in the form of the sheet.
-use answers::DONE;
 use libc::STDOUT_FILENO;
-use sheet::RowFields;
-use station::Station;
+use rules::DONE;
+use rules::RowFields;
+use rules::Station;
 
 // Room for any line: the title is the longest.
 const LINE: usize = 27;

@@ -9,22 +9,18 @@ use mathlib.Core.List.{List, [], _∷_, map}
 use lib.Dec.{ltb}
 use lib.ListN.{getD, length, length-map, set, List·getD-map}
 use lib.Seq.{getD-set-other}
-use Rattle.answers.specs.FirstRefusal.{_if_then_, _▷_}
 use Rattle.demands.proofs.ApartLaws.{aspectIn}
 use Rattle.islands.proofs.Listed.{getD-same}
-use Rattle.islands.specs.Islands.{withinLimits}
 use Rattle.reports.proofs.Accepted.{after-any}
-use Rattle.reports.specs.Answer.{answerOf}
-use Rattle.reports.specs.Reports.{Kind, acted, clock, detectorFailed, detectorRestored, headCondition, islandFree, islandOccupied, kindOf, noKind, normalise}
-use Rattle.reports.specs.Taken.{stationAfter}
-use Rattle.reports.specs.declared.Report.{Report}
-use Rattle.signal.specs.Heads.{communicationFailed, failedSounders, headOutputs, powerFailed}
-use Rattle.signal.specs.Outputs.{outputsOf}
-use Rattle.station.specs.Aspect.{aspectOf, greatestRisk}
-use Rattle.station.specs.Clock.{allOlder, faultLatched, holdLowered, holdSet, tick, ticks}
-use Rattle.station.specs.Shown.{headsOf}
-use Rattle.station.specs.Station.{live, settingsAnswer, withCondition, withTrack}
-use Rattle.station.specs.declared.Station.{Station}
+use Rattle.rules.specs.Aspect.{aspectOf, greatestRisk}
+use Rattle.rules.specs.Heads.{communicationFailed, failedSounders, headOutputs, headsOf, powerFailed}
+use Rattle.rules.specs.Numbers.{answerOf, stationAfter}
+use Rattle.rules.specs.Outputs.{outputsOf}
+use Rattle.rules.specs.Reports.{Kind, acted, allOlder, clock, detectorFailed, detectorRestored, faultLatched, headCondition, holdLowered, holdSet, islandFree, islandOccupied, kindOf, noKind, normalise, tick, ticks}
+use Rattle.rules.specs.Station.{live, settingsAnswer, withCondition, withTrack, withinLimits}
+use Rattle.rules.specs.Words.{_if_then_, _▷_}
+use Rattle.rules.specs.declared.Report.{Report}
+use Rattle.rules.specs.declared.Station.{Station}
 
 -- ---- the fault
 

@@ -5,17 +5,15 @@ use Prim.Native.Nat.{ℕ}
 use mathlib.Core.Path.{_≡_}
 use mathlib.Core.Bool.{Bool, not}
 use mathlib.Core.List.{List}
-use Rattle.answers.specs.FirstRefusal.{_if_then_}
-use Rattle.islands.specs.Fresh.{freshAdvance, freshNear, someHeld}
-use Rattle.islands.specs.Islands.{withinLimits}
-use Rattle.islands.specs.Lists.{any}
-use Rattle.islands.specs.declared.Settings.{Settings}
-use Rattle.islands.specs.declared.Track.{Track}
 use Rattle.reports.proofs.Taking.{after-refused}
-use Rattle.reports.specs.Answer.{answerOf}
-use Rattle.reports.specs.Taken.{stationAfter}
-use Rattle.reports.specs.declared.Report.{Report}
-use Rattle.station.specs.declared.Station.{Station}
+use Rattle.rules.specs.Aspect.{freshAdvance, freshNear, someHeld}
+use Rattle.rules.specs.Numbers.{answerOf, stationAfter}
+use Rattle.rules.specs.Station.{withinLimits}
+use Rattle.rules.specs.Words.{any, _if_then_}
+use Rattle.rules.specs.declared.Report.{Report}
+use Rattle.rules.specs.declared.Settings.{Settings}
+use Rattle.rules.specs.declared.Station.{Station}
+use Rattle.rules.specs.declared.Track.{Track}
 
 -- A refused report returns the old station.
 pub refused-keeps : (s : Station) (r : Report) → (answerOf s r ≡ 0 → ⊥) → stationAfter s r ≡ s

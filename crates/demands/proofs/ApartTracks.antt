@@ -10,33 +10,25 @@ use borrow.Author.Tests.{ltb-true}
 use lib.Dec.{leb, ltb}
 use lib.ListN.{getD, set, replicate}
 use lib.Seq.{drop-set-lt, getD-take, take-set-lt}
-use Rattle.answers.proofs.Chains.{same-order}
-use Rattle.answers.specs.FirstRefusal.{_if_then_}
+use Rattle.chains.proofs.Chains.{same-order}
 use Rattle.demands.proofs.ApartLaws.{aspectIn, refused-keeps}
 use Rattle.demands.specs.Agree.{Agree}
 use Rattle.islands.proofs.Below.{changed-drop, changed-take}
-use Rattle.islands.specs.Ageing.{late, olderTrack}
-use Rattle.islands.specs.Fresh.{present, someFresh}
-use Rattle.islands.specs.Islands.{freeTrack, islandAt, someFailed, someOccupied, withinLimits}
-use Rattle.islands.specs.Lists.{any, count}
-use Rattle.islands.specs.Mark.{detectorNow, freeNow, occupiedNow, withIsland}
-use Rattle.islands.specs.declared.Island.{Island}
-use Rattle.islands.specs.declared.Settings.{Settings}
-use Rattle.islands.specs.declared.Track.{Track}
 use Rattle.reports.proofs.Accepted.{Below, accepted-below, after-any, place-below}
 use Rattle.reports.proofs.Taking.{after-accepted}
-use Rattle.reports.specs.Answer.{already, answerOf, blocked, namesHead, namesIsland, placeAnswer, stateAnswer}
-use Rattle.reports.specs.Reports.{Kind, acted, clock, detectorFailed, detectorRestored, headCondition, islandFree, islandOccupied, kindOf, namedIsland, namedTrack, noKind, normalise, withNamed}
-use Rattle.reports.specs.Taken.{stationAfter}
-use Rattle.reports.specs.declared.Report.{Report}
-use Rattle.signal.specs.Heads.{headOutputs}
-use Rattle.signal.specs.Outputs.{outputsOf}
-use Rattle.station.specs.Aspect.{aspectOf, greatestRisk}
-use Rattle.station.specs.Clock.{allOlder, faultLatched, holdLowered, holdSet, tick, ticks}
-use Rattle.station.specs.Shown.{headsOf, presenceOf, zonesOf}
-use Rattle.station.specs.Station.{beyond, live, obstructed, settingsAnswer, trackAt, withCondition, withTrack}
-use Rattle.station.specs.With.{withFault, withHold}
-use Rattle.station.specs.declared.Station.{Station}
+use Rattle.rules.specs.Aspect.{aspectOf, greatestRisk, presenceOf, present, someFresh}
+use Rattle.rules.specs.Heads.{headOutputs, headsOf}
+use Rattle.rules.specs.Numbers.{already, answerOf, blocked, namesHead, namesIsland, placeAnswer, stateAnswer, stationAfter}
+use Rattle.rules.specs.Outputs.{outputsOf}
+use Rattle.rules.specs.Printer.{zonesOf}
+use Rattle.rules.specs.Reports.{Kind, acted, allOlder, clock, detectorFailed, detectorNow, detectorRestored, faultLatched, freeNow, headCondition, holdLowered, holdSet, islandFree, islandOccupied, kindOf, late, namedIsland, namedTrack, noKind, normalise, occupiedNow, olderTrack, tick, ticks, withIsland, withNamed}
+use Rattle.rules.specs.Station.{beyond, freeTrack, islandAt, live, obstructed, settingsAnswer, someFailed, someOccupied, trackAt, withCondition, withFault, withHold, withTrack, withinLimits}
+use Rattle.rules.specs.Words.{any, count, _if_then_}
+use Rattle.rules.specs.declared.Island.{Island}
+use Rattle.rules.specs.declared.Report.{Report}
+use Rattle.rules.specs.declared.Settings.{Settings}
+use Rattle.rules.specs.declared.Station.{Station}
+use Rattle.rules.specs.declared.Track.{Track}
 
 -- ---- what stations that agree show and answer
 

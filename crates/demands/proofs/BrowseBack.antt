@@ -11,18 +11,18 @@ use mathlib.Core.List.{List, [], _∷_}
 use borrow.Author.Tests.{leb-false, leb-true, lt-ltb}
 use denote.Ref.{RefT, now}
 use lib.Dec.{leb}
-use Rattle.answers.proofs.Chains.{where-done, where-refused}
-use Rattle.browser.specs.Browsing.{before, bytesOf, movedTo, opened}
+use Rattle.browser.specs.Browsing.{bytesOf, movedTo, opened}
 use Rattle.browser.specs.declared.Browser.{Browser}
+use Rattle.chains.proofs.Chains.{where-done, where-refused}
 use Rattle.demands.proofs.ReadBack.{filled-entries, read-back}
-use Rattle.demands.specs.BrowseBack.{Browses, Move, afterMoves, back, forward, moved, rowOf}
+use Rattle.demands.specs.BrowseBack.{Browses, afterMoves, moved, rowOf}
 use Rattle.demands.specs.ReadBack.{Filling, Room, register, station, wholly}
 use Rattle.register.proofs.Replays.{sized}
 use Rattle.register.proofs.Returned.{read-whole, step-above}
-use Rattle.register.specs.Answers.{registerAnswer}
-use Rattle.register.specs.Layout.{entries}
-use Rattle.register.specs.Reading.{readingOf, stepAnswer, stepOf}
-use Rattle.register.specs.declared.Reading.{Reading}
+use Rattle.rules.specs.Browser.{Move, back, before, forward}
+use Rattle.rules.specs.Layout.{entries}
+use Rattle.rules.specs.Register.{readingOf, registerAnswer, stepAnswer, stepOf}
+use Rattle.rules.specs.declared.Reading.{Reading}
 
 -- ---- a browser on any bytes
 

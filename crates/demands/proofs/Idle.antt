@@ -7,12 +7,12 @@ use native.Mathlib.Omega.{arith}
 use mathlib.Core.Path.{_≡_, refl, ap}
 use lib.ListN.{replicate}
 use Rattle.demands.proofs.Computed.{computed}
-use Rattle.demands.specs.Machine.{refusesAll, alwaysFive, keepsStation, coasts}
+use Rattle.demands.specs.Idle.{alwaysFive, coasts, keepsStation, refusesAll}
 use Rattle.demands.specs.ReadBack.{Filling, ReadsBack, Room, madeUp}
-use Rattle.demands.specs.Table.{firstWrong, table}
-use Rattle.islands.specs.Islands.{withinLimits}
-use Rattle.register.specs.declared.Reading.{Reading}
-use Rattle.station.specs.Station.{leastSettings}
+use Rattle.rules.specs.Station.{leastSettings, withinLimits}
+use Rattle.rules.specs.declared.Reading.{Reading}
+use Rattle.rules.specs.rows.Row.{firstWrong}
+use Rattle.rules.specs.rows.Table.{table}
 
 -- One that refuses everything breaks demand 2 at C2,
 pub refuses-all : firstWrong (table refusesAll) ≡ 2

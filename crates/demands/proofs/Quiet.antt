@@ -8,34 +8,26 @@ use mathlib.Core.Bool.{Bool, true, false, cond, not, _&&_, _||_, false≢true}
 use mathlib.Core.List.{List, [], _∷_, _++_, map}
 use borrow.Author.Tests.{eq-eqb, eqb-true, le-ltb, leb-true}
 use lib.Dec.{leb, ltb}
-use Rattle.answers.proofs.Chains.{both}
-use Rattle.answers.specs.FirstRefusal.{_if_then_}
-use Rattle.answers.specs.Limits.{within}
+use Rattle.chains.proofs.Chains.{both}
 use Rattle.demands.proofs.ApartLaws.{aspectIn, refused-keeps}
 use Rattle.demands.proofs.Reached.{Kept, kept-after, reached-keeps}
-use Rattle.demands.specs.Quiet.{NotStuck, Quiet, Reached, accepted, afterAll, clockGone, greatest, isClock, isHead, longEnough, settled}
+use Rattle.demands.specs.Quiet.{NotStuck, Quiet, Reached, accepted, afterAll, clockGone, greatest, isClock, isHead, longEnough, settled, warningOccupied}
 use Rattle.islands.proofs.Below.{any-alike, any-map, any-none}
-use Rattle.islands.proofs.Settled.{all-held-then, no-advance-then, no-near-then, occupied-still, warning-still}
+use Rattle.islands.proofs.Settled.{all-held-then, no-advance-then, no-near-then, occupied-still, occupied-still-in}
 use Rattle.islands.proofs.Turned.{timers}
-use Rattle.islands.specs.Ageing.{warningOccupied}
-use Rattle.islands.specs.Fresh.{freshAdvance, freshNear, someHeld}
-use Rattle.islands.specs.Islands.{Zone, advance, crossing, warning, someOccupied, timer, withinLimits}
-use Rattle.islands.specs.Lists.{any}
 use Rattle.islands.specs.Turns.{laterTrack}
-use Rattle.islands.specs.declared.Settings.{Settings}
-use Rattle.islands.specs.declared.Track.{Track}
 use Rattle.reports.proofs.FiveIslands.{Five, five-take}
 use Rattle.reports.proofs.Taking.{after-accepted, meant}
-use Rattle.reports.specs.Answer.{answerOf}
-use Rattle.reports.specs.Reports.{acted, clock, headCondition, kindOf}
-use Rattle.reports.specs.Taken.{stationAfter}
-use Rattle.reports.specs.declared.Report.{Report}
+use Rattle.rules.specs.Aspect.{aspectOf, freshAdvance, freshNear, greatestRisk, someHeld}
+use Rattle.rules.specs.Numbers.{answerOf, stationAfter}
+use Rattle.rules.specs.Reports.{acted, clock, headCondition, holdSet, kindOf, ticks}
+use Rattle.rules.specs.Station.{Zone, advance, crossing, isWarning, live, someOccupied, timer, warning, withCondition, withConditions, withHold, withinLimits}
+use Rattle.rules.specs.Words.{any, within, _if_then_}
+use Rattle.rules.specs.declared.Report.{Report}
+use Rattle.rules.specs.declared.Settings.{Settings}
+use Rattle.rules.specs.declared.Station.{Station}
+use Rattle.rules.specs.declared.Track.{Track}
 use Rattle.station.proofs.Settling.{fault-then, hold-falls, no-risk-then, ticks-add, ticks-conditions, ticks-live, ticks-settings}
-use Rattle.station.specs.Aspect.{aspectOf, greatestRisk}
-use Rattle.station.specs.Clock.{holdSet, ticks}
-use Rattle.station.specs.Station.{live, withCondition}
-use Rattle.station.specs.With.{withConditions, withHold}
-use Rattle.station.specs.declared.Station.{Station}
 
 -- ---- a quiet list of reports does what its ticks do
 
@@ -165,7 +157,7 @@ settled-then s k (suc m) long =
 
 -- no tick occupies or frees an island
 settled-still : (s : Station) (n : ℕ) (latched : Bool) → settled latched (ticks n s) ≡ settled latched s
-settled-still s n latched = λ i. 5 if latched || still warningOccupied (λ t. warning-still n t) i then 4 if still someOccupied (λ t. occupied-still n t) i then 0
+settled-still s n latched = λ i. 5 if latched || still warningOccupied (λ t. occupied-still-in n t isWarning) i then 4 if still someOccupied (λ t. occupied-still n t) i then 0
   where
     still : (p : Track → Bool) → ((t : Track) → p (laterTrack n t) ≡ p t) → any p (live (ticks n s)) ≡ any p (live s)
     still p e = ap (any p) (ticks-live n s) ∙ any-map (laterTrack n) p (live s) ∙ any-alike (λ t. p (laterTrack n t)) p e (live s)

@@ -7,24 +7,19 @@ use mathlib.Core.Bool.{Bool, true, false, cond, not, _&&_, _||_, false≢true}
 use mathlib.Core.List.{List, [], _∷_}
 use lib.Dec.{leb, ltb}
 use lib.ListN.{replicate, take}
-use Rattle.answers.proofs.Chains.{neither}
-use Rattle.answers.specs.Limits.{within}
+use Rattle.chains.proofs.Chains.{neither}
+use Rattle.demands.specs.Quiet.{Reached, afterAll}
 use Rattle.reports.proofs.Accepted.{after-any}
 use Rattle.reports.proofs.Shape.{Shaped, shaped-fresh, shaped-named, shaped-older}
-use Rattle.demands.specs.Quiet.{Reached, afterAll}
-use Rattle.islands.specs.Fresh.{present, someFresh}
-use Rattle.islands.specs.Islands.{freeTrack, withinLimits}
-use Rattle.islands.specs.Lists.{any, count}
-use Rattle.islands.specs.declared.Island.{Island}
-use Rattle.islands.specs.declared.Settings.{Settings}
-use Rattle.reports.specs.Reports.{Kind, acted, clock, detectorFailed, detectorRestored, headCondition, islandFree, islandOccupied, kindOf, noKind, normalise, withNamed}
-use Rattle.reports.specs.Taken.{stationAfter}
-use Rattle.reports.specs.declared.Report.{Report}
-use Rattle.station.specs.Aspect.{greatestRisk}
-use Rattle.station.specs.Clock.{allOlder, faultLatched, holdLowered, holdSet, tick, ticks}
-use Rattle.station.specs.Station.{withCondition, withTrack}
-use Rattle.station.specs.With.{freshStation, withFault}
-use Rattle.station.specs.declared.Station.{Station}
+use Rattle.rules.specs.Aspect.{greatestRisk, present, someFresh}
+use Rattle.rules.specs.Numbers.{stationAfter}
+use Rattle.rules.specs.Reports.{Kind, acted, allOlder, clock, detectorFailed, detectorRestored, faultLatched, headCondition, holdLowered, holdSet, islandFree, islandOccupied, kindOf, noKind, normalise, tick, ticks, withNamed}
+use Rattle.rules.specs.Station.{freeTrack, freshStation, withCondition, withFault, withTrack, withinLimits}
+use Rattle.rules.specs.Words.{any, count, within}
+use Rattle.rules.specs.declared.Island.{Island}
+use Rattle.rules.specs.declared.Report.{Report}
+use Rattle.rules.specs.declared.Settings.{Settings}
+use Rattle.rules.specs.declared.Station.{Station}
 
 -- The hold never exceeds T4, and is T4 where the condition is true.
 pub record Kept (s : Station) : Type 0 where

@@ -10,27 +10,21 @@ use borrow.Author.Tests.{eq-eqb, le-ltb, lt-leb, ne-eqb}
 use lib.Dec.{eqb, leb, ltb}
 use lib.ListN.{length, take}
 use lib.Seq.{length-take-le, take-take}
-use Rattle.answers.specs.FirstRefusal.{_if_then_, _▷_}
 use Rattle.demands.proofs.ApartTracks.{settings-stay}
 use Rattle.demands.proofs.RegisterBytes.{begun-head, begun-settings, entry-answer, entry-aspect, entry-report, first-entry, same-entry, same-first}
 use Rattle.demands.proofs.RegisterLaws.{append-applies, append-elsewhere, append-enters, start-elsewhere, start-header}
 use Rattle.demands.specs.ReadBack.{Appends, Filling, ReadsBack, Room, answer, aspect, filled, ours, register, station, wholly}
-use Rattle.islands.specs.Islands.{withinLimits}
-use Rattle.islands.specs.declared.Settings.{Settings}
 use Rattle.register.proofs.FirstWrong.{below-next, right}
-use Rattle.register.specs.Answers.{appendAnswer, headAnswer, lengthAnswer, registerAnswer, sameSettings, startAnswer, unfit}
-use Rattle.register.specs.Layout.{entries, entryAt, entryOf, entryStart, header, reportIn, settingsIn}
-use Rattle.register.specs.Reading.{entryAnswer, handedBack, readAnswer, readOf, readingOf, stepAnswer, stepOf}
-use Rattle.register.specs.Replay.{after, asReplayed, firstWrong}
-use Rattle.register.specs.Writing.{newEntry}
-use Rattle.reports.specs.Answer.{answerOf}
-use Rattle.reports.specs.Taken.{stationAfter}
-use Rattle.reports.specs.declared.Report.{Report}
-use Rattle.reports.specs.declared.Taken.{Taken}
-use Rattle.station.specs.Aspect.{aspectOf}
-use Rattle.station.specs.Station.{leastSettings, made, settingsAnswer}
-use Rattle.station.specs.With.{freshStation}
-use Rattle.station.specs.declared.Station.{Station}
+use Rattle.rules.specs.Aspect.{aspectOf}
+use Rattle.rules.specs.Layout.{entries, entryAt, entryOf, entryStart, header, reportIn, settingsIn}
+use Rattle.rules.specs.Numbers.{answerOf, stationAfter}
+use Rattle.rules.specs.Register.{after, appendAnswer, asReplayed, entryAnswer, firstWrong, handedBack, headAnswer, lengthAnswer, newEntry, readAnswer, readOf, readingOf, registerAnswer, sameSettings, startAnswer, stepAnswer, stepOf, unfit}
+use Rattle.rules.specs.Station.{freshStation, leastSettings, made, settingsAnswer, withinLimits}
+use Rattle.rules.specs.Words.{_if_then_, _▷_}
+use Rattle.rules.specs.declared.Report.{Report}
+use Rattle.rules.specs.declared.Settings.{Settings}
+use Rattle.rules.specs.declared.Station.{Station}
+use Rattle.rules.specs.declared.Taken.{Taken}
 
 -- ---- settings within their limits are refused by nobody
 

@@ -11,12 +11,11 @@ use borrow.Author.Tests.{le-ltb}
 use lib.Dec.{eqb, ltb}
 use lib.ListN.{length, take, drop, getD, length-append, length-drop}
 use lib.Seq.{drop-at, drop-drop, getD-take, length-take-le, take-at, take-take}
-use Rattle.answers.specs.FirstRefusal.{_if_then_}
-use Rattle.islands.specs.declared.Settings.{Settings}
-use Rattle.register.specs.Answers.{headAnswer}
-use Rattle.register.specs.Layout.{answerIn, aspectIn, entryAt, entryOf, entryStart, header, reportIn, settingsIn}
-use Rattle.register.specs.Writing.{put}
-use Rattle.reports.specs.declared.Report.{Report}
+use Rattle.rules.specs.Layout.{answerIn, aspectIn, entryAt, entryOf, entryStart, header, reportIn, settingsIn}
+use Rattle.rules.specs.Register.{headAnswer, put}
+use Rattle.rules.specs.Words.{_if_then_}
+use Rattle.rules.specs.declared.Report.{Report}
+use Rattle.rules.specs.declared.Settings.{Settings}
 
 -- ---- bytes put in one place
 

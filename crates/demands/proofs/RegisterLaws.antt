@@ -11,22 +11,20 @@ use mathlib.Core.List.{List}
 use borrow.Author.Tests.{ltb-false}
 use lib.Dec.{eqb, leb, ltb}
 use lib.ListN.{length, take, drop}
-use Rattle.answers.proofs.Chains.{both-done, group-passes, group-refuses, passed, where-done, where-refused}
-use Rattle.answers.specs.FirstRefusal.{_if_then_, _▷_}
+use Rattle.chains.proofs.Chains.{both-done, group-passes, group-refuses, passed, where-done, where-refused}
 use Rattle.demands.proofs.RegisterBytes.{put-after, put-before, put-length, put-there, same-head, same-settings}
-use Rattle.islands.specs.declared.Settings.{Settings}
 use Rattle.register.proofs.Entering.{room}
-use Rattle.register.specs.Answers.{appendAnswer, startAnswer, unfit}
-use Rattle.register.specs.Layout.{entryAt, entryOf, entryStart, header}
-use Rattle.register.specs.Writing.{appended, appendedBytes, newEntry, put, started}
 use Rattle.reports.proofs.Taking.{after-refused}
-use Rattle.reports.specs.Answer.{answerOf}
-use Rattle.reports.specs.Taken.{stationAfter}
-use Rattle.reports.specs.declared.Report.{Report}
-use Rattle.reports.specs.declared.Taken.{Taken}
-use Rattle.station.specs.Aspect.{aspectOf}
-use Rattle.station.specs.Station.{settingsAnswer}
-use Rattle.station.specs.declared.Station.{Station}
+use Rattle.rules.specs.Aspect.{aspectOf}
+use Rattle.rules.specs.Layout.{entryAt, entryOf, entryStart, header}
+use Rattle.rules.specs.Numbers.{answerOf, stationAfter}
+use Rattle.rules.specs.Register.{appendAnswer, appended, appendedBytes, newEntry, put, startAnswer, started, unfit}
+use Rattle.rules.specs.Station.{settingsAnswer}
+use Rattle.rules.specs.Words.{_if_then_, _▷_}
+use Rattle.rules.specs.declared.Report.{Report}
+use Rattle.rules.specs.declared.Settings.{Settings}
+use Rattle.rules.specs.declared.Station.{Station}
+use Rattle.rules.specs.declared.Taken.{Taken}
 
 -- ---- starting
 

@@ -10,18 +10,15 @@ use mathlib.Core.List.{List}
 use borrow.Author.Tests.{eq-eqb}
 use lib.Dec.{eqb, ltb}
 use lib.ListN.{length, take}
-use Rattle.answers.proofs.Chains.{group-refuses}
-use Rattle.answers.specs.FirstRefusal.{_if_then_, _▷_}
+use Rattle.chains.proofs.Chains.{group-refuses}
 use Rattle.demands.proofs.RegisterBytes.{same-entry, same-first, same-head, same-settings}
 use Rattle.demands.proofs.Stated.{stated-reading, stated-stepping}
 use Rattle.register.proofs.FirstWrong.{Names, names-first}
-use Rattle.register.specs.Answers.{lengthAnswer, registerAnswer}
-use Rattle.register.specs.Layout.{entries, entryStart, reportIn}
-use Rattle.register.specs.Reading.{entryAnswer, readAnswer, readOf, readingOf, stepAnswer, stepOf}
-use Rattle.register.specs.Replay.{after, asReplayed, firstWrong}
-use Rattle.reports.specs.Taken.{stationAfter}
-use Rattle.station.specs.Station.{leastSettings, made, settingsAnswer}
-use Rattle.station.specs.With.{freshStation}
+use Rattle.rules.specs.Layout.{entries, entryStart, reportIn}
+use Rattle.rules.specs.Numbers.{stationAfter}
+use Rattle.rules.specs.Register.{after, asReplayed, entryAnswer, firstWrong, lengthAnswer, readAnswer, readOf, readingOf, registerAnswer, stepAnswer, stepOf}
+use Rattle.rules.specs.Station.{freshStation, leastSettings, made, settingsAnswer}
+use Rattle.rules.specs.Words.{_if_then_, _▷_}
 
 -- ---- Reading: 9, 10, 11, 12, 8, 13. Handing back: 9, 10, 11, 12, 8, 14. Stepping: the same.
 

@@ -8,19 +8,17 @@ use mathlib.Core.Bool.{Bool, cond}
 use mathlib.Core.List.{_++_}
 use borrow.Author.Tests.{le-ltb}
 use lib.ListN.{length}
-use Rattle.answers.proofs.Chains.{where-done}
+use Rattle.chains.proofs.Chains.{where-done}
 use Rattle.demands.proofs.ReadBack.{filled-entries, filled-entry, filled-length, read-back, replayed}
 use Rattle.demands.proofs.RegisterBytes.{entry-report}
 use Rattle.demands.specs.ReadBack.{Filling, Room, answer, aspect, lines, register}
-use Rattle.register.specs.Layout.{reportIn}
-use Rattle.register.specs.Reading.{readOf}
-use Rattle.register.specs.declared.Reading.{Reading}
-use Rattle.reports.specs.Answer.{answerOf}
-use Rattle.sheet.specs.Lines.{refusalLine, rowLine, title}
-use Rattle.sheet.specs.Printed.{printed, rowLines, sheetOf}
-use Rattle.signal.specs.Outputs.{outputsOf}
-use Rattle.station.specs.Aspect.{aspectOf}
-use Rattle.station.specs.Shown.{zonesOf}
+use Rattle.rules.specs.Aspect.{aspectOf}
+use Rattle.rules.specs.Layout.{reportIn}
+use Rattle.rules.specs.Numbers.{answerOf}
+use Rattle.rules.specs.Outputs.{outputsOf}
+use Rattle.rules.specs.Printer.{printed, refusalLine, rowLine, rowLines, sheetOf, title, zonesOf}
+use Rattle.rules.specs.Register.{readOf}
+use Rattle.rules.specs.declared.Reading.{Reading}
 
 module _ (f : Filling) (n : ℕ) (room : Room f n) where
   same-lines : (k : ℕ) → k ≤ n → rowLines (register f n) k ≡ lines f k

@@ -11,26 +11,21 @@ use mathlib.Core.List.{List, [], _∷_}
 use borrow.Author.Tests.{eqb-false, eqb-true, leb-true, ltb-true, not-true}
 use lib.Dec.{eqb, leb, ltb}
 use lib.ListN.{length}
-use Rattle.answers.proofs.Chains.{both, either, group-so}
-use Rattle.answers.proofs.Given.{Tests, _before_, _on_else_, each, every, first, given, none, testOf}
-use Rattle.answers.specs.FirstRefusal.{_▷_}
-use Rattle.answers.specs.Limits.{within}
+use Rattle.chains.proofs.Chains.{both, either, group-so}
+use Rattle.chains.proofs.Given.{Tests, each, every, first, given, none, testOf, _before_, _on_else_}
 use Rattle.demands.specs.Stated.{OfAppending, OfHandingBack, OfLimits, OfReading, OfRegister, OfReport, OfStarting, OfStepping, oneOf}
-use Rattle.islands.specs.Islands.{withinLimits}
-use Rattle.islands.specs.declared.Settings.{Settings}
-use Rattle.register.specs.Answers.{appendAnswer, full, headAnswer, lengthAnswer, registerAnswer, startAnswer, unfit}
-use Rattle.register.specs.Layout.{entries, hasMark, settingsIn, versionIn}
-use Rattle.register.specs.Reading.{entryAnswer, readAnswer, readOf, readingOf, stepAnswer, stepOf}
-use Rattle.register.specs.Replay.{firstWrong}
-use Rattle.register.specs.Writing.{appended}
 use Rattle.reports.proofs.ByNumber.{is-known, not-blocked}
-use Rattle.reports.specs.Answer.{already, answerOf, blocked, formAnswer, known, namesHead, namesIsland, placeAnswer, stateAnswer, wrongFields}
-use Rattle.reports.specs.Reports.{kindOf, namedIsland}
-use Rattle.reports.specs.declared.Report.{Report}
-use Rattle.siting.specs.Siting.{advanceSited, messageGood, speedGood, tracksGood, warningSited}
-use Rattle.siting.specs.declared.Seconds.{Seconds}
-use Rattle.station.specs.Station.{made, obstructed, settingsAnswer}
-use Rattle.station.specs.declared.Station.{Station}
+use Rattle.rules.specs.Layout.{entries, hasMark, settingsIn, versionIn}
+use Rattle.rules.specs.Numbers.{already, answerOf, blocked, formAnswer, known, namesHead, namesIsland, placeAnswer, stateAnswer, wrongFields}
+use Rattle.rules.specs.Register.{appendAnswer, appended, entryAnswer, firstWrong, full, headAnswer, lengthAnswer, readAnswer, readOf, readingOf, registerAnswer, startAnswer, stepAnswer, stepOf, unfit}
+use Rattle.rules.specs.Reports.{kindOf, namedIsland}
+use Rattle.rules.specs.Siting.{advanceSited, messageGood, speedGood, tracksGood, warningSited}
+use Rattle.rules.specs.Station.{made, obstructed, settingsAnswer, withinLimits}
+use Rattle.rules.specs.Words.{within, _▷_}
+use Rattle.rules.specs.declared.Report.{Report}
+use Rattle.rules.specs.declared.Seconds.{Seconds}
+use Rattle.rules.specs.declared.Settings.{Settings}
+use Rattle.rules.specs.declared.Station.{Station}
 
 -- a test that fails on one number alone
 unequal : (x n : ℕ) → not (eqb x n) ≡ true → x ≡ n → ⊥

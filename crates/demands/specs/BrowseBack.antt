@@ -5,22 +5,17 @@ use Prim.Native.Nat.{ℕ, _≤_, _<_}
 use mathlib.Core.Path.{_≡_}
 use mathlib.Core.List.{List, [], _∷_}
 use denote.Ref.{RefT}
-use Rattle.answers.specs.Numbers.{noSuchRow}
-use Rattle.browser.specs.Browsing.{ahead, before, bytesOf, movedTo, opened}
+use Rattle.browser.specs.Browsing.{bytesOf, movedTo}
 use Rattle.browser.specs.declared.Browser.{Browser}
 use Rattle.demands.specs.ReadBack.{Filling, station, wholly}
-use Rattle.register.specs.Reading.{stepOf}
-use Rattle.register.specs.declared.Reading.{Reading}
+use Rattle.rules.specs.Answers.{noSuchRow}
+use Rattle.rules.specs.Browser.{Move, leadsTo}
+use Rattle.rules.specs.Register.{stepOf}
+use Rattle.rules.specs.declared.Reading.{Reading}
 
--- A move: to a row, forward one, or back one; and the row that it leads to.
-pub data Move : Type 0 where
-  to : ℕ → Move
-  forward back : Move
-
+-- the row that a move of the browser leads to
 abbrev pub rowOf : Browser → Move → ℕ
-rowOf w (to k) = k
-rowOf w forward = ahead (w .row)
-rowOf w back = before (w .row)
+rowOf w m = leadsTo (w .row) m
 
 -- what a move shows, and the browser after it
 abbrev pub shown : Browser → Move → Reading

@@ -1,15 +1,8 @@
 pub mod Agree
 pub mod BrowseBack
 pub mod BrowseRows
-pub mod HouseRows
-pub mod Machine
+pub mod Idle
 pub mod Quiet
 pub mod QuietRows
 pub mod ReadBack
-pub mod Refusals
-pub mod RegisterRefusals
-pub mod RegisterRows
-pub mod SheetRows
 pub mod Stated
-pub mod StationRows
-pub mod Table

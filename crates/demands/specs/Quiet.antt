@@ -1,23 +1,19 @@
 -- Demand 3: "No lamp is stuck: once the clock has gone the longer of T5, or T4 plus the greatest of T1, T2, T3, with only clock, head and refused reports,
 -- the aspect is settled: out of service if a fault was latched at the start or a warning island is occupied, else orange if any island is, else green."
-use Prim.Native.Nat.{ℕ, _+_, _≤_, max}
+use Prim.Native.Nat.{ℕ, _+_, max, _≤_}
 use mathlib.Core.Path.{_≡_}
 use mathlib.Core.Bool.{Bool, true, cond, not, _&&_, _||_}
 use mathlib.Core.List.{List, [], _∷_, _++_}
 use lib.Dec.{eqb}
-use Rattle.answers.specs.FirstRefusal.{_if_then_}
-use Rattle.answers.specs.Numbers.{done}
-use Rattle.islands.specs.Ageing.{warningOccupied}
-use Rattle.islands.specs.Islands.{someOccupied, withinLimits}
-use Rattle.islands.specs.Lists.{any}
-use Rattle.islands.specs.declared.Settings.{Settings}
-use Rattle.reports.specs.Answer.{answerOf}
-use Rattle.reports.specs.Taken.{stationAfter}
-use Rattle.reports.specs.declared.Report.{Report}
-use Rattle.station.specs.Aspect.{aspectOf}
-use Rattle.station.specs.Station.{live}
-use Rattle.station.specs.With.{freshStation}
-use Rattle.station.specs.declared.Station.{Station}
+use Rattle.rules.specs.Answers.{done}
+use Rattle.rules.specs.Aspect.{aspectOf}
+use Rattle.rules.specs.Numbers.{answerOf, stationAfter}
+use Rattle.rules.specs.Station.{anyIsland, freshStation, isWarning, live, someOccupied, withinLimits}
+use Rattle.rules.specs.Words.{any, _if_then_}
+use Rattle.rules.specs.declared.Report.{Report}
+use Rattle.rules.specs.declared.Settings.{Settings}
+use Rattle.rules.specs.declared.Station.{Station}
+use Rattle.rules.specs.declared.Track.{Track}
 
 -- the station after a list of reports, taken or refused, one after the other
 unfoldable pub afterAll : Station → List Report → Station
@@ -61,6 +57,10 @@ greatest c = max (c .t1) (max (c .t2) (c .t3))
 
 abbrev pub longEnough : Settings → ℕ
 longEnough c = max (c .t5) (c .t4 + greatest c)
+
+-- a warning island of the track is occupied
+abbrev pub warningOccupied : Track → Bool
+warningOccupied t = anyIsland (λ z i. isWarning z && i .occupied) t
 
 -- Out of service if a fault was latched at the start or a warning island is occupied, else orange if any island is, else green: aspects 5, 4 and 0.
 abbrev pub settled : Bool → Station → ℕ

@@ -4,16 +4,17 @@
 use Prim.Native.Nat.{ℕ, _-_}
 use mathlib.Core.Bool.{true, false}
 use mathlib.Core.List.{List, [], _∷_, _++_, map}
-use Rattle.demands.specs.HouseRows.{departing, digits, leaving, rows}
-use Rattle.demands.specs.Machine.{ours}
 use Rattle.demands.specs.Quiet.{Quiet, afterAll, clockGone, longEnough, settled}
-use Rattle.demands.specs.Refusals.{chosen, condition, failed, fiveTracks, restored}
-use Rattle.demands.specs.Table.{Row, clock, freed, normalised, occupied, report, run}
-use Rattle.islands.specs.declared.Settings.{Settings}
-use Rattle.reports.specs.declared.Report.{Report}
-use Rattle.station.specs.Aspect.{aspectOf}
-use Rattle.station.specs.With.{withTracks}
-use Rattle.station.specs.declared.Station.{Station}
+use Rattle.rules.specs.Aspect.{aspectOf}
+use Rattle.rules.specs.Station.{withTracks}
+use Rattle.rules.specs.declared.Report.{Report}
+use Rattle.rules.specs.declared.Settings.{Settings}
+use Rattle.rules.specs.declared.Station.{Station}
+use Rattle.rules.specs.rows.HouseRows.{departing, leaving}
+use Rattle.rules.specs.rows.Machine.{ours}
+use Rattle.rules.specs.rows.Refusals.{chosen, condition, failed, fiveTracks, restored}
+use Rattle.rules.specs.rows.Row.{Row, digits, rows}
+use Rattle.rules.specs.rows.Table.{clock, freed, normalised, occupied, report, run}
 
 -- Settings of two tracks (T1, T2, T3, T4, T5), all of them different. The longer is T5; T4 + T1; T4 + T2; T4 + T3.
 abbrev pub byT5 : Settings

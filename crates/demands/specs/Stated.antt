@@ -7,20 +7,15 @@ use mathlib.Core.Bool.{Bool, true, false}
 use mathlib.Core.List.{List, [], _∷_}
 use lib.Dec.{eqb}
 use lib.ListN.{length}
-use Rattle.answers.specs.Limits.{within}
-use Rattle.islands.specs.Islands.{withinLimits}
-use Rattle.islands.specs.Lists.{any}
-use Rattle.islands.specs.declared.Settings.{Settings}
-use Rattle.register.specs.Answers.{sameSettings, startAnswer}
-use Rattle.register.specs.Layout.{entries, hasMark, settingsIn, versionIn}
-use Rattle.register.specs.Reading.{entryAnswer, readOf, stepOf}
-use Rattle.register.specs.Replay.{firstWrong}
-use Rattle.register.specs.Writing.{appended}
-use Rattle.reports.specs.Answer.{already, answerOf, namesHead, namesIsland, wrongFields}
-use Rattle.reports.specs.Reports.{kindOf, namedIsland}
-use Rattle.reports.specs.declared.Report.{Report}
-use Rattle.station.specs.Station.{obstructed}
-use Rattle.station.specs.declared.Station.{Station}
+use Rattle.rules.specs.Layout.{entries, hasMark, settingsIn, versionIn}
+use Rattle.rules.specs.Numbers.{already, answerOf, namesHead, namesIsland, wrongFields}
+use Rattle.rules.specs.Register.{appended, entryAnswer, firstWrong, readOf, sameSettings, startAnswer, stepOf}
+use Rattle.rules.specs.Reports.{kindOf, namedIsland}
+use Rattle.rules.specs.Station.{obstructed, withinLimits}
+use Rattle.rules.specs.Words.{any, within}
+use Rattle.rules.specs.declared.Report.{Report}
+use Rattle.rules.specs.declared.Settings.{Settings}
+use Rattle.rules.specs.declared.Station.{Station}
 
 -- a number is one of these
 abbrev pub oneOf : List ℕ → ℕ → Bool

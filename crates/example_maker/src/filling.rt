@@ -1,10 +1,10 @@
 // A register as it fills up.
 use crate::saving::say_refused;
-use answers::DONE;
-use answers::NOT_CLEAR;
-use islands::Settings;
-use reports::Report;
-use station::Station;
+use rules::DONE;
+use rules::NOT_CLEAR;
+use rules::Report;
+use rules::Settings;
+use rules::Station;
 
 // Room for every example.
 pub(crate) type Buffer = [u8; 1024];
@@ -68,9 +68,5 @@ pub(crate) fn with(
 
 // The entry after k. Appending has refused a k that is not below the most entries.
 fn after(k: u16) -> u16 {
-    if (k as usize) < register::MOST {
-        k + 1
-    } else {
-        k
-    }
+    if (k as usize) < rules::MOST { k + 1 } else { k }
 }

@@ -2,8 +2,8 @@
 use crate::filling::Buffer;
 use crate::filling::Filling;
 use libc::STDOUT_FILENO;
-use register::ENTRY;
-use register::HEADER;
+use rules::ENTRY;
+use rules::HEADER;
 
 // Writes the filled bytes and no more to the file with this name, and then the line.
 pub(crate) fn saved(register: &Buffer, filling: Filling, name: &[u8]) {

@@ -6,11 +6,14 @@ use mathlib.Core.Path.{_≡_, refl, sym, ap, _∙_}
 use mathlib.Core.List.{List}
 use lib.ListN.{drop, length, length-drop}
 use lib.Seq.{length-take-le}
-use Rattle.export.specs.Places.{placeOf}
 use Rattle.export.specs.declared.registers.Entry.{Entry}
-use Rattle.register.specs.Layout.{entryAt, entryStart}
-use Rattle.register.specs.Reading.{entryAnswer}
 use Rattle.register.proofs.Returned.{entry-fits, part-done, part-refused}
+use Rattle.rules.specs.Layout.{entryAt, entryStart}
+use Rattle.rules.specs.Register.{entryAnswer, handedBack, handedBackAt}
+
+-- as the promise says it
+abbrev placeOf : List ℕ → ℕ → Entry
+placeOf b k = record { answer = entryAnswer b k; at = handedBackAt b k; length = length (handedBack b k) }
 
 module _ (b : List ℕ) (k n : ℕ) (e : n ≡ entryAnswer b k) where
   pub place-refused : (n ≡ 0 → ⊥) → (r : Entry) → r ≡ record { answer = n; at = 0; length = 0 } → r ≡ placeOf b k

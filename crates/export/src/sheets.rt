@@ -3,10 +3,8 @@ ghost use mathlib.Core.List.{_++_};
 ghost use mathlib.Core.Path.{_≡_};
 ghost use lib.ListN.{drop, length};
 ghost use Rattle.io.specs.Counts.{Counts};
-ghost use Rattle.sheet.specs.Lines.{refusalLine, rowLine, title};
-ghost use Rattle.sheet.specs.Printed.{printed};
-ghost use Rattle.sheet.specs.Text.{lengthWritten, written};
-use sheet::RowFields;
+ghost use Rattle.rules.specs.Printer.{lengthWritten, printed, refusalLine, rowLine, title, written};
+use rules::RowFields;
 use sheet::SheetText;
 
 // Writes what is printed of an input at the start of text, which has room for any sheet, and answers

@@ -1,8 +1,8 @@
 // Document 01, "Siting": how far from the crossing the detectors stand.
 ghost use mathlib.Core.Path.{_≡_};
-ghost use Rattle.siting.specs.Siting.{advanceSited, warningSited};
-use siting::Seconds;
-use siting::Sited;
+ghost use Rattle.rules.specs.Siting.{advanceSited, warningSited};
+use rules::Seconds;
+use rules::Sited;
 
 // The advance distance, for a speed in km/h and the time that the message takes.
 #[no_mangle]

@@ -1,20 +1,19 @@
 // A station, the reports that it takes, and what it shows.
 ghost use mathlib.Core.Path.{_≡_};
-ghost use Rattle.reports.specs.Answer.{answerOf};
-ghost use Rattle.reports.specs.Taken.{taken};
-ghost use Rattle.signal.specs.Heads.{headOutputs};
-ghost use Rattle.signal.specs.Outputs.{outputsOf};
-ghost use Rattle.station.specs.Aspect.{aspectOf};
-ghost use Rattle.station.specs.Shown.{headsOf, presenceOf, zonesOf};
-ghost use Rattle.station.specs.Station.{made};
-use islands::Settings;
-use reports::Report;
-use reports::Taken;
-use station::HeadOutputs;
-use station::Made;
-use station::Station;
-use station::TrackPresence;
-use station::ZoneDigits;
+ghost use Rattle.rules.specs.Aspect.{aspectOf, presenceOf};
+ghost use Rattle.rules.specs.Heads.{headOutputs, headsOf};
+ghost use Rattle.rules.specs.Numbers.{answerOf, taken};
+ghost use Rattle.rules.specs.Outputs.{outputsOf};
+ghost use Rattle.rules.specs.Printer.{zonesOf};
+ghost use Rattle.rules.specs.Station.{made};
+use rules::HeadOutputs;
+use rules::Made;
+use rules::Report;
+use rules::Settings;
+use rules::Station;
+use rules::Taken;
+use rules::TrackPresence;
+use rules::ZoneDigits;
 
 // What each head shows: nine output bits.
 #[repr(C)]

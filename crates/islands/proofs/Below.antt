@@ -10,7 +10,7 @@ use mathlib.Core.Bool.{Bool, true, false, cond, _||_, false≢true, or-false, or
 use mathlib.Core.List.{List, [], _∷_, _++_, map, map-append, append-assoc}
 use lib.ListN.{length, getD, take, drop, set, length-map, drop-of-length-le}
 use lib.Seq.{take-suc, take-all, drop-cons, set-at, length-take-le, getD-at, set-getD}
-use Rattle.islands.specs.Lists.{any, count}
+use Rattle.rules.specs.Words.{any, count}
 
 one-more : (b : Bool) (m n k : ℕ) → m ≡ n + k → cond b (suc m) m ≡ cond b (suc n) n + k
 one-more true m n k e = omega arith

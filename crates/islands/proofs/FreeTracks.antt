@@ -5,14 +5,14 @@ use mathlib.Core.Path.{_≡_, refl, sym, ap, ap₂}
 use mathlib.Core.Bool.{Bool, true, false, _||_, and-false, false≢true}
 use mathlib.Core.List.{List, [], _∷_, map}
 use Rattle.islands.proofs.Turned.{later-free}
-use Rattle.islands.specs.Ageing.{late}
-use Rattle.islands.specs.Fresh.{present, someFresh}
-use Rattle.islands.specs.Islands.{Zone, zones, someOccupied}
-use Rattle.islands.specs.Lists.{any, anyWith}
 use Rattle.islands.specs.Turns.{later, laterTrack}
-use Rattle.islands.specs.declared.Island.{Island}
-use Rattle.islands.specs.declared.Settings.{Settings}
-use Rattle.islands.specs.declared.Track.{Track}
+use Rattle.rules.specs.Aspect.{present, someFresh}
+use Rattle.rules.specs.Reports.{late}
+use Rattle.rules.specs.Station.{Zone, someOccupied, zones}
+use Rattle.rules.specs.Words.{any, anyWith}
+use Rattle.rules.specs.declared.Island.{Island}
+use Rattle.rules.specs.declared.Settings.{Settings}
+use Rattle.rules.specs.declared.Track.{Track}
 
 neither : (a b : Bool) → a || b ≡ false → (a ≡ false) × (b ≡ false)
 neither true b e = absurd (false≢true (sym e))

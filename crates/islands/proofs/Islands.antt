@@ -5,13 +5,13 @@ use mathlib.Core.Path.{_≡_, refl, sym, ap, _∙_}
 use mathlib.Core.Bool.{Bool, false, _||_, or-false}
 use mathlib.Core.List.{List, [], _∷_}
 use lib.ListN.{length}
-use Rattle.islands.proofs.Listed.{tabulate, listed}
-use Rattle.islands.specs.Islands.{Zone, advance, warning, crossing, free, islandAt, anyIsland}
-use Rattle.islands.specs.Lists.{any}
-use Rattle.islands.specs.Mark.{leavingMark}
+use Rattle.islands.proofs.Listed.{listed, tabulate}
 use Rattle.islands.specs.Turns.{later, laterTrack}
-use Rattle.islands.specs.declared.Island.{Island}
-use Rattle.islands.specs.declared.Track.{Track}
+use Rattle.rules.specs.Reports.{leavingMark}
+use Rattle.rules.specs.Station.{Zone, advance, anyIsland, crossing, free, islandAt, warning}
+use Rattle.rules.specs.Words.{any}
+use Rattle.rules.specs.declared.Island.{Island}
+use Rattle.rules.specs.declared.Track.{Track}
 
 -- the track with its islands written out
 abbrev pub five : Track → Track

@@ -6,15 +6,14 @@ use mathlib.Core.Bool.{Bool, true, false, not, _&&_, _||_, or-false}
 use mathlib.Core.List.{[], _∷_}
 use lib.Dec.{leb}
 use Rattle.islands.proofs.Islands.{any-island}
-use Rattle.islands.specs.Ageing.{isWarning}
-use Rattle.islands.specs.Fresh.{held, freshApproaching, isAdvance, someFresh, present, freshNear, freshAdvance, someHeld}
-use Rattle.islands.specs.Islands.{warning, crossing, approaching, goingAway}
 use Rattle.islands.specs.Signs.{seenOf, signsOf}
-use Rattle.islands.specs.declared.Island.{Island}
-use Rattle.islands.specs.declared.Settings.{Settings}
 use Rattle.islands.specs.declared.Signs.{Signs}
-use Rattle.islands.specs.declared.Track.{Track}
 use Rattle.islands.specs.declared.shown.Seen.{Seen}
+use Rattle.rules.specs.Aspect.{freshAdvance, freshApproaching, freshNear, held, present, someFresh, someHeld}
+use Rattle.rules.specs.Station.{approaching, crossing, goingAway, isAdvance, isWarning, warning}
+use Rattle.rules.specs.declared.Island.{Island}
+use Rattle.rules.specs.declared.Settings.{Settings}
+use Rattle.rules.specs.declared.Track.{Track}
 
 -- No sixth island adds to them.
 pub signs-of-seen : (c : Settings) (i0 i1 i2 i3 i4 : Island) (s0 s1 s2 s3 s4 : Seen)

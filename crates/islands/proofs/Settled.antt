@@ -12,14 +12,14 @@ use lib.ListN.{length}
 use Rattle.islands.proofs.Below.{any-alike, any-map, or-both}
 use Rattle.islands.proofs.Listed.{listed}
 use Rattle.islands.proofs.Turned.{aged, later-is, reach}
-use Rattle.islands.specs.Ageing.{isWarning, late, warningOccupied}
-use Rattle.islands.specs.Fresh.{freshAdvance, freshApproaching, freshNear, held, isAdvance, someFresh, someHeld}
-use Rattle.islands.specs.Islands.{Zone, free, someOccupied, timer, zones}
-use Rattle.islands.specs.Lists.{any, anyWith}
 use Rattle.islands.specs.Turns.{later, laterTrack}
-use Rattle.islands.specs.declared.Island.{Island}
-use Rattle.islands.specs.declared.Settings.{Settings}
-use Rattle.islands.specs.declared.Track.{Track}
+use Rattle.rules.specs.Aspect.{freshAdvance, freshApproaching, freshNear, held, someFresh, someHeld}
+use Rattle.rules.specs.Reports.{late}
+use Rattle.rules.specs.Station.{Zone, anyIsland, free, isAdvance, isWarning, someOccupied, timer, zones}
+use Rattle.rules.specs.Words.{any, anyWith}
+use Rattle.rules.specs.declared.Island.{Island}
+use Rattle.rules.specs.declared.Settings.{Settings}
+use Rattle.rules.specs.declared.Track.{Track}
 
 -- ---- an island
 
@@ -83,15 +83,19 @@ nowhere (z ∷ zs) (i ∷ l) = nowhere zs l
 somewhere : (l : List Island) → length l ≡ 5 → anyWith (λ z i. i .occupied) zones l ≡ any (λ i. i .occupied) l
 somewhere l e = ap (anyWith (λ z i. i .occupied) zones) (listed free l 5 e) ∙ sym (ap (any (λ i. i .occupied)) (listed free l 5 e))
 
+-- an island is occupied in one of these zones
+abbrev pub occupiedIn : (Zone → Bool) → Track → Bool
+occupiedIn zone t = anyIsland (λ z i. zone z && i .occupied) t
+
 -- No tick occupies or frees an island.
 module _ (n : ℕ) (t : Track) where
   pub occupied-still : someOccupied (laterTrack n t) ≡ someOccupied t
   unfolding someOccupied laterTrack
   occupied-still = any-map (later n) (λ i. i .occupied) (t .islands) ∙ any-alike _ _ (λ i. ap (λ (j : Island). j .occupied) (later-is n i)) (t .islands)
 
-  pub warning-still : warningOccupied (laterTrack n t) ≡ warningOccupied t
-  unfolding warningOccupied laterTrack
-  warning-still = each (later n) _ _ (λ z i. ap (λ (j : Island). isWarning z && j .occupied) (later-is n i)) zones (t .islands)
+  pub occupied-still-in : (zone : Zone → Bool) → occupiedIn zone (laterTrack n t) ≡ occupiedIn zone t
+  unfolding laterTrack
+  occupied-still-in zone = each (later n) _ _ (λ z i. ap (λ (j : Island). zone z && j .occupied) (later-is n i)) zones (t .islands)
 
 module _ (c : Settings) (n : ℕ) (t : Track) where
   module _ (limit : (z : Zone) → timer c z ≤ 65535) (long : (z : Zone) → timer c z ≤ n) where
@@ -115,10 +119,10 @@ module _ (c : Settings) (n : ℕ) (t : Track) where
     unfolding someHeld someOccupied laterTrack
     all-held-then five = each (later n) _ _ (held-then c n limit long) zones (t .islands) ∙ somewhere (t .islands) five
 
-  pub late-at-last : c .t5 ≤ 65535 → c .t5 ≤ n → late c (laterTrack n t) ≡ warningOccupied t
-  unfolding late warningOccupied laterTrack
+  pub late-at-last : c .t5 ≤ 65535 → c .t5 ≤ n → late c (laterTrack n t) ≡ occupiedIn isWarning t
+  unfolding late laterTrack
   late-at-last limit long = each (later n) _ _ (late-then c n limit long) zones (t .islands)
 
-  pub late-if-occupied : late c (laterTrack n t) || warningOccupied t ≡ warningOccupied t
-  unfolding late warningOccupied laterTrack
+  pub late-if-occupied : late c (laterTrack n t) || occupiedIn isWarning t ≡ occupiedIn isWarning t
+  unfolding late laterTrack
   late-if-occupied = only (later n) _ _ (late-only c n) zones (t .islands)

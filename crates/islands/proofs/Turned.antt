@@ -9,15 +9,15 @@ use mathlib.Core.Bool.{Bool, true, false, cond, not, _&&_, _||_, or-false, or-tr
 use mathlib.Core.List.{List, [], _∷_, map}
 use borrow.Author.Tests.{le-leb, lt-leb, lt-ltb, le-ltb}
 use lib.Dec.{leb, ltb, leb·zero}
-use Rattle.islands.specs.Ageing.{isWarning, late, older, olderTrack}
-use Rattle.islands.specs.Fresh.{freshApproaching, held, present, someFresh}
-use Rattle.islands.specs.Islands.{Zone, advance, crossing, warning, approaching, goingAway, timer, zones}
-use Rattle.islands.specs.Lists.{anyWith}
 use Rattle.islands.specs.Turns.{Turning, allTurns, later, laterTrack, never, noTurns, together, turnsIn, turnsOf}
-use Rattle.islands.specs.declared.Island.{Island}
-use Rattle.islands.specs.declared.Settings.{Settings}
-use Rattle.islands.specs.declared.Track.{Track}
 use Rattle.islands.specs.declared.Turns.{Turns}
+use Rattle.rules.specs.Aspect.{freshApproaching, held, present, someFresh}
+use Rattle.rules.specs.Reports.{late, older, olderTrack}
+use Rattle.rules.specs.Station.{Zone, advance, approaching, crossing, goingAway, isWarning, timer, warning, zones}
+use Rattle.rules.specs.Words.{anyWith}
+use Rattle.rules.specs.declared.Island.{Island}
+use Rattle.rules.specs.declared.Settings.{Settings}
+use Rattle.rules.specs.declared.Track.{Track}
 
 -- two tests of one order
 same-test : (a b c d : ℕ) → (a ≤ b → c ≤ d) → (c ≤ d → a ≤ b) → leb a b ≡ leb c d

@@ -5,8 +5,8 @@ use mathlib.Core.Path.{_≡_}
 use mathlib.Core.Bool.{_&&_, and-true}
 use lib.Dec.{leb, ltb, leb·zero}
 use borrow.Author.Tests.{le-leb}
-use Rattle.islands.specs.Islands.{withinLimits}
-use Rattle.islands.specs.declared.Settings.{Settings}
+use Rattle.rules.specs.Station.{withinLimits}
+use Rattle.rules.specs.declared.Settings.{Settings}
 
 pub limits : (c : Settings) → c .t1 ≤ 65535 → c .t2 ≤ 65535 → c .t3 ≤ 65535 → c .t4 ≤ 65535 → c .t5 ≤ 65535
     → leb 1 (c .tracks) && leb (c .tracks) 4 && leb 1 (c .t1) && leb 1 (c .t2) && leb 1 (c .t3) && leb 1 (c .t5) && ltb (c .t2) (c .t5) ≡ withinLimits c

@@ -1,7 +1,2 @@
-pub mod Ageing
-pub mod Fresh
-pub mod Islands
-pub mod Lists
-pub mod Mark
 pub mod Signs
 pub mod Turns

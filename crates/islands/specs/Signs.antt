@@ -2,13 +2,13 @@
 use Prim.Native.Nat.{ℕ}
 use mathlib.Core.Bool.{Bool, not, _&&_, _||_}
 use lib.Dec.{leb}
-use Rattle.islands.specs.Fresh.{someFresh, present, freshNear, freshAdvance, someHeld}
-use Rattle.islands.specs.Islands.{approaching, goingAway}
-use Rattle.islands.specs.declared.Island.{Island}
-use Rattle.islands.specs.declared.shown.Seen.{Seen}
-use Rattle.islands.specs.declared.Settings.{Settings}
 use Rattle.islands.specs.declared.Signs.{Signs}
-use Rattle.islands.specs.declared.Track.{Track}
+use Rattle.islands.specs.declared.shown.Seen.{Seen}
+use Rattle.rules.specs.Aspect.{freshAdvance, freshNear, present, someFresh, someHeld}
+use Rattle.rules.specs.Station.{approaching, goingAway}
+use Rattle.rules.specs.declared.Island.{Island}
+use Rattle.rules.specs.declared.Settings.{Settings}
+use Rattle.rules.specs.declared.Track.{Track}
 
 unfoldable pub signsOf : Settings → Track → Signs
 signsOf c t =

@@ -5,13 +5,13 @@ use mathlib.Core.Path.{_≡_}
 use mathlib.Core.Bool.{Bool, cond, _&&_, _||_}
 use mathlib.Core.List.{List, [], _∷_, map}
 use lib.Dec.{leb, ltb}
-use Rattle.islands.specs.Ageing.{isWarning, late, older}
-use Rattle.islands.specs.Fresh.{present, someFresh}
-use Rattle.islands.specs.Islands.{Zone, approaching, goingAway, timer, zones}
-use Rattle.islands.specs.declared.Island.{Island}
-use Rattle.islands.specs.declared.Settings.{Settings}
-use Rattle.islands.specs.declared.Track.{Track}
 use Rattle.islands.specs.declared.Turns.{Turns}
+use Rattle.rules.specs.Aspect.{present, someFresh}
+use Rattle.rules.specs.Reports.{late, older}
+use Rattle.rules.specs.Station.{Zone, approaching, goingAway, isWarning, timer, zones}
+use Rattle.rules.specs.declared.Island.{Island}
+use Rattle.rules.specs.declared.Settings.{Settings}
+use Rattle.rules.specs.declared.Track.{Track}
 
 -- an island, and a track, n single ticks later
 unfoldable pub later : ℕ → Island → Island

@@ -2,8 +2,8 @@
 ghost use mathlib.Core.Path.{_≡_};
 ghost use Prim.Native.Nat.{_+_, min};
 ghost use Rattle.islands.specs.Turns.{later as Turns·later, laterTrack};
-use crate::Island;
-use crate::Track;
+use rules::Island;
+use rules::Track;
 
 // The track n single ticks later: every occupied island's age has grown by n, stopping at 65,535.
 pub fn later_track(track: Track, n: u16) -> Track

@@ -20,32 +20,6 @@ pub use shown::some_failed;
 pub use shown::some_occupied;
 pub use turning::turns_of;
 
-// The number of tracks, and the timers in ticks. A tick is a tenth of a second.
-#[repr(C)]
-pub struct Settings {
-    pub tracks: u8,
-    pub t1: u16,
-    pub t2: u16,
-    pub t3: u16,
-    pub t4: u16,
-    pub t5: u16,
-}
-
-// An island is free, or occupied with a mark and an age in ticks. Its detector may have failed.
-#[repr(C)]
-pub struct Island {
-    pub occupied: bool,
-    pub leaving: bool,
-    pub failed: bool,
-    pub age: u16,
-}
-
-// Advance side 1, warning side 1, crossing, warning side 2, advance side 2.
-#[repr(C)]
-pub struct Track {
-    pub islands: [Island; 5],
-}
-
 // What is asked of a track: a fresh approaching island; an island that counts for the greatest
 // risk; a fresh approaching warning or crossing island; a fresh approaching advance island; a held
 // island.

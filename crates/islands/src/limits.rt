@@ -1,7 +1,7 @@
 // Document 01, "What the station is": the settings' limits.
 ghost use mathlib.Core.Path.{_≡_};
-ghost use Rattle.islands.specs.Islands.{withinLimits};
-use crate::Settings;
+ghost use Rattle.rules.specs.Station.{withinLimits};
+use rules::Settings;
 
 // Whether every setting is within its limits. No u16 is above 65,535.
 pub fn within_limits(settings: Settings) -> bool

@@ -1,9 +1,9 @@
 // Document 01, "Reports": what becomes of the island that a report names.
 ghost use mathlib.Core.Path.{_≡_};
-ghost use Rattle.islands.specs.Islands.{islandAt};
-ghost use Rattle.islands.specs.Mark.{detectorNow, freeNow, leavingMark, occupiedNow, withIsland};
-use crate::Island;
-use crate::Track;
+ghost use Rattle.rules.specs.Reports.{detectorNow, freeNow, leavingMark, occupiedNow, withIsland};
+ghost use Rattle.rules.specs.Station.{islandAt};
+use rules::Island;
+use rules::Track;
 
 // The island with this number; past the last one, a free island.
 pub fn island_at(track: Track, number: u8) -> Island

@@ -1,12 +1,12 @@
 // Document 01, "From islands to aspect": what a track shows.
 ghost use mathlib.Core.Path.{_≡_};
 ghost use mathlib.Core.List.{[], _∷_};
-ghost use Rattle.islands.specs.Islands.{someFailed, someOccupied};
 ghost use Rattle.islands.specs.Signs.{seenOf, signsOf};
-use crate::Island;
-use crate::Settings;
+ghost use Rattle.rules.specs.Station.{someFailed, someOccupied};
 use crate::Signs;
-use crate::Track;
+use rules::Island;
+use rules::Settings;
+use rules::Track;
 
 // What one island adds to its track's signs.
 pub(crate) struct Seen {

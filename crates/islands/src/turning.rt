@@ -5,12 +5,12 @@ ghost use mathlib.Core.Bool.{cond};
 ghost use mathlib.Core.List.{[], _∷_};
 ghost use Prim.Native.Nat.{_-_};
 ghost use Rattle.islands.specs.Turns.{together, turnsIn, turnsOf};
-use crate::Island;
-use crate::Settings;
-use crate::Track;
 use crate::Turns;
 use crate::numbers::greater;
 use crate::numbers::lesser;
+use rules::Island;
+use rules::Settings;
+use rules::Track;
 
 const NEVER: u32 = 65536;
 

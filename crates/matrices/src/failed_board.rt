@@ -14,7 +14,7 @@ use crate::trains::crosses;
 use crate::trains::enters;
 use crate::trains::leaves;
 use crate::trains::moves;
-use reports::Taken;
+use rules::Taken;
 
 pub(crate) fn av4() {
     matrix(b"AV4");

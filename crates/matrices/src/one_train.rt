@@ -11,7 +11,7 @@ use crate::trains::enters;
 use crate::trains::leaves;
 use crate::trains::moves;
 use crate::trains::stands;
-use reports::Taken;
+use rules::Taken;
 
 // N1: it does not stop.
 pub(crate) fn n1() {

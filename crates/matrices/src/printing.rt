@@ -1,7 +1,7 @@
 // The lines: a matrix's name, or a row's number, zone digits, output digits and answer.
 use libc::STDOUT_FILENO;
-use sheet::RowFields;
-use station::ZoneDigits;
+use rules::RowFields;
+use rules::ZoneDigits;
 
 pub(crate) fn matrix(name: &[u8]) {
     io::write_all(STDOUT_FILENO, name);

@@ -1,7 +1,7 @@
 // A row of a matrix: what stands after the reports of its event. Each row hands on what it was given,
 // so that the next row's event goes on from there.
 use crate::printing;
-use reports::Taken;
+use rules::Taken;
 
 // The head on which the board fails in AV4. Either would do: the two are worked out apart.
 pub(crate) const FAILED_HEAD: u8 = 0;

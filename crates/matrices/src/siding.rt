@@ -11,7 +11,7 @@ use crate::trains::crosses;
 use crate::trains::enters;
 use crate::trains::leaves;
 use crate::trains::moves;
-use reports::Taken;
+use rules::Taken;
 
 pub(crate) fn n10_2() {
     matrix(b"N10.2");

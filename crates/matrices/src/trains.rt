@@ -3,10 +3,10 @@
 // a train's step from one island to the next is two reports, in that order.
 use crate::printing;
 use crate::rows::FAILED_HEAD;
-use islands::Settings;
-use reports::Report;
-use reports::Taken;
-use station::Station;
+use rules::Report;
+use rules::Settings;
+use rules::Station;
+use rules::Taken;
 
 // The islands by the matrices' columns: ISPR1, ISAV1, ISCR, ISAV2, ISPR2.
 pub(crate) const ADVANCE_1: u8 = 0;
@@ -81,7 +81,7 @@ fn taken(station: Station, kind: u8, a: u8, b: u8, value: u16) -> Taken {
         value,
     };
     let taken = reports::take(station, report);
-    if taken.answer != answers::DONE {
+    if taken.answer != rules::DONE {
         printing::refused();
     }
     taken

@@ -11,7 +11,7 @@ use crate::given::report;
 use crate::printing::end;
 use crate::printing::group;
 use crate::refusing::answer_of;
-use station::Station;
+use rules::Station;
 
 // A report refused by each of 1 to 7.
 pub(crate) fn lines() {

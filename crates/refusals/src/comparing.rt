@@ -1,8 +1,8 @@
 // Whether two stations are the same, field by field.
-use islands::Island;
-use islands::Settings;
-use islands::Track;
-use station::Station;
+use rules::Island;
+use rules::Settings;
+use rules::Station;
+use rules::Track;
 
 pub(crate) fn same_station(one: Station, other: Station) -> bool {
     same_settings(one.settings, other.settings)

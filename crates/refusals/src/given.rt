@@ -1,10 +1,10 @@
 // The settings, reports and stations that the groups are made of.
-use islands::Island;
-use islands::Settings;
-use islands::Track;
 use libc::STDOUT_FILENO;
-use reports::Report;
-use station::Station;
+use rules::Island;
+use rules::Report;
+use rules::Settings;
+use rules::Station;
+use rules::Track;
 
 // The number of tracks, T1, T2, T3, T4, T5.
 pub(crate) fn chosen(tracks: u8, t1: u16, t2: u16, t3: u16, t4: u16, t5: u16) -> Settings {
@@ -66,7 +66,7 @@ pub(crate) fn normalised() -> Station {
 // The station after a report. One that is refused on the way shows in the output.
 pub(crate) fn after(station: Station, report: Report) -> Station {
     let taken = reports::take(station, report);
-    if taken.answer != answers::DONE {
+    if taken.answer != rules::DONE {
         io::write_all(STDOUT_FILENO, b" refused");
     }
     taken.station

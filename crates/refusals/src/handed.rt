@@ -10,7 +10,7 @@ use crate::printing::number;
 use crate::refusing::answer_of;
 use crate::refusing::detector_answers;
 use crate::refusing::train_answers;
-use station::Station;
+use rules::Station;
 
 pub(crate) fn lines() {
     every_kind();

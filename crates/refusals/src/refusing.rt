@@ -8,9 +8,9 @@ use crate::given::occupied;
 use crate::given::restored;
 use crate::printing::changed_unless;
 use crate::printing::number;
-use islands::Settings;
-use reports::Report;
-use station::Station;
+use rules::Report;
+use rules::Settings;
+use rules::Station;
 
 // What a normalised station answers.
 pub(crate) fn answer(report: Report) {

@@ -2,8 +2,8 @@
 use crate::printing::end;
 use crate::printing::group;
 use crate::printing::number;
-use siting::Seconds;
-use siting::Sited;
+use rules::Seconds;
+use rules::Sited;
 
 pub(crate) fn lines() {
     let refused = outside_limits();

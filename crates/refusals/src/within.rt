@@ -11,9 +11,9 @@ use crate::given::restored;
 use crate::printing::end;
 use crate::printing::group;
 use crate::printing::number;
-use reports::Report;
-use siting::Seconds;
-use station::Station;
+use rules::Report;
+use rules::Seconds;
+use rules::Station;
 
 pub(crate) fn lines() {
     settings();

@@ -18,9 +18,9 @@ use crate::printing::end;
 use crate::printing::group;
 use crate::printing::numbers;
 use crate::printing::shown;
-use reports::Report;
-use reports::Taken;
-use station::Station;
+use rules::Report;
+use rules::Station;
+use rules::Taken;
 
 pub(crate) fn lines() {
     eight_bytes();

@@ -1,7 +1,7 @@
 // The settings, reports, stations and registers that the groups are made of.
-use islands::Settings;
-use reports::Report;
-use station::Station;
+use rules::Report;
+use rules::Settings;
+use rules::Station;
 
 // The number of tracks, T1, T2, T3, T4, T5.
 pub(crate) fn chosen(tracks: u8, t1: u16, t2: u16, t3: u16, t4: u16, t5: u16) -> Settings {

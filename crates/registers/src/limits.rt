@@ -10,7 +10,7 @@ use crate::printing::end;
 use crate::printing::group;
 use crate::refusing::appending;
 use crate::refusing::readers;
-use islands::Settings;
+use rules::Settings;
 
 pub(crate) fn lines() {
     started();

@@ -1,10 +1,10 @@
 // A line of a group: its number and a colon, then each number after a space.
-use islands::Settings;
 use libc::STDOUT_FILENO;
-use register::Reading;
-use reports::Report;
-use station::Station;
-use station::ZoneDigits;
+use rules::Reading;
+use rules::Report;
+use rules::Settings;
+use rules::Station;
+use rules::ZoneDigits;
 
 pub(crate) fn group(name: u64) {
     io::print_decimal(STDOUT_FILENO, name);

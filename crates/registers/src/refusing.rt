@@ -8,7 +8,7 @@ use crate::given::worked_settings;
 use crate::printing::byte;
 use crate::printing::end;
 use crate::printing::group;
-use reports::Report;
+use rules::Report;
 
 pub(crate) fn lines() {
     shorter();

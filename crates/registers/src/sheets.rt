@@ -11,8 +11,8 @@ use crate::given::worked_settings;
 use crate::printing::end;
 use crate::printing::group;
 use crate::printing::text;
-use sheet::RowFields;
-use station::ZoneDigits;
+use rules::RowFields;
+use rules::ZoneDigits;
 
 pub(crate) fn lines() {
     sheet_of_worked();

@@ -12,7 +12,7 @@ use crate::printing::group;
 use crate::printing::numbers;
 use crate::printing::said;
 use crate::refusing::appending_in;
-use islands::Settings;
+use rules::Settings;
 
 pub(crate) fn lines() {
     sixteen_bytes();

@@ -7,14 +7,13 @@ use mathlib.Core.Path.{_≡_, sym, ap, subst, _∙_}
 use mathlib.Core.Bool.{Bool, true, false, _&&_}
 use borrow.Author.Tests.{leb-false, ltb-false}
 use lib.Dec.{leb, ltb}
-use Rattle.answers.proofs.Chains.{both-done, passed}
+use Rattle.chains.proofs.Chains.{both-done, passed}
 use Rattle.reports.proofs.Taking.{after-accepted, after-refused}
-use Rattle.reports.specs.Answer.{already, answerOf, formAnswer, namesIsland, placeAnswer, stateAnswer}
-use Rattle.reports.specs.Reports.{Kind, acted, kindOf, namedIsland}
-use Rattle.reports.specs.Taken.{stationAfter}
-use Rattle.reports.specs.declared.Report.{Report}
-use Rattle.station.specs.Station.{settingsAnswer}
-use Rattle.station.specs.declared.Station.{Station}
+use Rattle.rules.specs.Numbers.{already, answerOf, formAnswer, namesIsland, placeAnswer, stateAnswer, stationAfter}
+use Rattle.rules.specs.Reports.{Kind, acted, kindOf, namedIsland}
+use Rattle.rules.specs.Station.{settingsAnswer}
+use Rattle.rules.specs.declared.Report.{Report}
+use Rattle.rules.specs.declared.Station.{Station}
 
 -- where a report names an island, its track is below the number
 abbrev pub Below : Kind → Station → Report → Type 0

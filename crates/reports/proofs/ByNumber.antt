@@ -6,11 +6,11 @@ use mathlib.Core.Path.{_≡_, refl, ap₂}
 use mathlib.Core.Bool.{false, not, _&&_, _||_}
 use borrow.Author.Tests.{le-leb, lt-leb, ne-eqb}
 use lib.Dec.{eqb, leb}
-use Rattle.islands.specs.declared.Island.{Island}
-use Rattle.reports.specs.Answer.{already, blocked, known, namesHead, namesIsland, wrongFields}
-use Rattle.reports.specs.Reports.{kindOf, noKind}
-use Rattle.reports.specs.declared.Report.{Report}
-use Rattle.station.specs.declared.Station.{Station}
+use Rattle.rules.specs.Numbers.{already, blocked, known, namesHead, namesIsland, wrongFields}
+use Rattle.rules.specs.Reports.{kindOf, noKind}
+use Rattle.rules.specs.declared.Island.{Island}
+use Rattle.rules.specs.declared.Report.{Report}
+use Rattle.rules.specs.declared.Station.{Station}
 
 -- the eighth number after k
 abbrev pub past : ℕ → ℕ

@@ -4,14 +4,11 @@ use Prim.Native.Nat.{ℕ, zero, suc}
 use mathlib.Core.Path.{_≡_, refl, _∙_}
 use mathlib.Core.List.{List, [], _∷_, _++_, map}
 use lib.ListN.{drop, getD, length, length-map, length-set, set, take}
-use Rattle.islands.specs.Ageing.{older, olderTrack}
-use Rattle.islands.specs.Islands.{freeTrack}
-use Rattle.islands.specs.Mark.{withIsland}
-use Rattle.islands.specs.declared.Island.{Island}
-use Rattle.islands.specs.declared.Track.{Track}
-use Rattle.station.specs.Clock.{allOlder}
-use Rattle.station.specs.Station.{trackAt, withTrack}
-use Rattle.station.specs.declared.Station.{Station}
+use Rattle.rules.specs.Reports.{allOlder, older, olderTrack, withIsland}
+use Rattle.rules.specs.Station.{freeTrack, trackAt, withTrack}
+use Rattle.rules.specs.declared.Island.{Island}
+use Rattle.rules.specs.declared.Station.{Station}
+use Rattle.rules.specs.declared.Track.{Track}
 
 -- each track of a list has five islands
 unfoldable pub Five : List Track → Type 0

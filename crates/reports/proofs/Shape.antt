@@ -7,21 +7,17 @@ use mathlib.Core.List.{List, map}
 use lib.Dec.{eqb}
 use lib.ListN.{length, length-map, length-set}
 use lib.Seq.{length-front}
-use Rattle.answers.specs.FirstRefusal.{_if_then_}
-use Rattle.islands.specs.Ageing.{olderTrack}
-use Rattle.islands.specs.Islands.{withinLimits}
-use Rattle.islands.specs.declared.Island.{Island}
-use Rattle.islands.specs.declared.Settings.{Settings}
-use Rattle.islands.specs.declared.Track.{Track}
 use Rattle.reports.proofs.Accepted.{after-any}
 use Rattle.reports.proofs.FiveIslands.{Five, five-named, five-older}
-use Rattle.reports.specs.Reports.{Kind, acted, clock, detectorFailed, detectorRestored, headCondition, islandFree, islandOccupied, kindOf, noKind, normalise, withNamed}
-use Rattle.reports.specs.Taken.{stationAfter}
-use Rattle.reports.specs.declared.Report.{Report}
-use Rattle.station.specs.Clock.{allOlder, faultLatched, holdLowered, holdSet, tick, ticks}
-use Rattle.station.specs.Station.{leastSettings, live, made, settingsAnswer, withCondition, withTrack}
-use Rattle.station.specs.With.{freshStation}
-use Rattle.station.specs.declared.Station.{Station}
+use Rattle.rules.specs.Numbers.{stationAfter}
+use Rattle.rules.specs.Reports.{Kind, acted, allOlder, clock, detectorFailed, detectorRestored, faultLatched, headCondition, holdLowered, holdSet, islandFree, islandOccupied, kindOf, noKind, normalise, olderTrack, tick, ticks, withNamed}
+use Rattle.rules.specs.Station.{freshStation, leastSettings, live, made, settingsAnswer, withCondition, withTrack, withinLimits}
+use Rattle.rules.specs.Words.{_if_then_}
+use Rattle.rules.specs.declared.Island.{Island}
+use Rattle.rules.specs.declared.Report.{Report}
+use Rattle.rules.specs.declared.Settings.{Settings}
+use Rattle.rules.specs.declared.Station.{Station}
+use Rattle.rules.specs.declared.Track.{Track}
 
 pub record Shape (c : Settings) (l : List Track) : Type 0 where
   pub within : withinLimits c ≡ true

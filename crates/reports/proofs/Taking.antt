@@ -5,16 +5,14 @@ use native.Mathlib.Omega.{arith}
 use mathlib.Core.Path.{_≡_, ap, ap₂, _∙_}
 use mathlib.Core.Bool.{Bool, cond}
 use borrow.Author.Tests.{eq-eqb, ne-eqb}
-use Rattle.answers.proofs.Chains.{group-below, test-below}
-use Rattle.islands.specs.Mark.{withIsland}
-use Rattle.islands.specs.declared.Island.{Island}
-use Rattle.islands.specs.declared.Track.{Track}
-use Rattle.reports.specs.Answer.{answerOf, formAnswer, placeAnswer, stateAnswer}
-use Rattle.reports.specs.Reports.{acted, kindOf, namedTrack, withNamed}
-use Rattle.reports.specs.Taken.{stationAfter}
-use Rattle.reports.specs.declared.Report.{Report}
-use Rattle.station.specs.Station.{settingsAnswer, trackAt, withTrack}
-use Rattle.station.specs.declared.Station.{Station}
+use Rattle.chains.proofs.Chains.{group-below, test-below}
+use Rattle.rules.specs.Numbers.{answerOf, formAnswer, placeAnswer, stateAnswer, stationAfter}
+use Rattle.rules.specs.Reports.{acted, kindOf, namedTrack, withIsland, withNamed}
+use Rattle.rules.specs.Station.{settingsAnswer, trackAt, withTrack}
+use Rattle.rules.specs.declared.Island.{Island}
+use Rattle.rules.specs.declared.Report.{Report}
+use Rattle.rules.specs.declared.Station.{Station}
+use Rattle.rules.specs.declared.Track.{Track}
 
 -- the station with what becomes of the island that the report names
 pub named : (now : Track → ℕ → Island) (s : Station) (r : Report) (t : Track) (i : Island) (w : Station)

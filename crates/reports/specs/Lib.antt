@@ -1,4 +1,1 @@
-pub mod Answer
 pub mod Placed
-pub mod Reports
-pub mod Taken

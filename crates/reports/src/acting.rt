@@ -1,25 +1,31 @@
 // Document 01, "Reports": what an accepted report does.
 ghost use mathlib.Core.Path.{_≡_};
-ghost use Rattle.reports.specs.Reports.{acted, detectorFailed, detectorRestored, headCondition, islandFree, islandOccupied, kindOf, normalise};
-ghost use Rattle.islands.specs.Mark.{withIsland};
-ghost use Rattle.station.specs.Station.{withTrack};
-use crate::Report;
-use islands::Island;
-use islands::Track;
-use station::Station;
+ghost use Rattle.rules.specs.Reports.{acted, detectorFailed, detectorRestored, headCondition, islandFree, islandOccupied, kindOf, normalise, withIsland};
+ghost use Rattle.rules.specs.Station.{withTrack};
+use rules::CLOCK;
+use rules::DETECTOR_FAILED;
+use rules::DETECTOR_RESTORED;
+use rules::HEAD_CONDITION;
+use rules::ISLAND_FREE;
+use rules::ISLAND_OCCUPIED;
+use rules::Island;
+use rules::NORMALISE;
+use rules::Report;
+use rules::Station;
+use rules::Track;
 
 pub(crate) fn act(station: Station, report: Report) -> Station
     ensures { λ r. ⌜ r ≡ acted (kindOf (report .kind)) station report ⌝ }
 {
     let kind = report.kind;
     match kind {
-        1 => occupied(station, report),
-        2 => freed(station, report),
-        3 => station::clock(station, report.value),
-        4 => failed(station, report),
-        5 => restored(station, report),
-        6 => conditioned(station, report),
-        7 => normalised(station, report),
+        ISLAND_OCCUPIED => occupied(station, report),
+        ISLAND_FREE => freed(station, report),
+        CLOCK => station::clock(station, report.value),
+        DETECTOR_FAILED => failed(station, report),
+        DETECTOR_RESTORED => restored(station, report),
+        HEAD_CONDITION => conditioned(station, report),
+        NORMALISE => normalised(station, report),
         _ => station,
     }
 }

@@ -1,18 +1,25 @@
 // Document 01, "The numbers it answers": the tests of a report, in their order.
 ghost use mathlib.Core.Path.{_≡_};
-ghost use Rattle.reports.specs.Answer.{already as Answer·already, answerOf, formAnswer, known as Answer·known, namesIsland, placeAnswer, stateAnswer, wrongFields};
-ghost use Rattle.reports.specs.Reports.{kindOf};
-use crate::Report;
-use answers::ALREADY_SO;
-use answers::BAD_FIELD;
-use answers::DONE;
-use answers::NO_SUCH_HEAD;
-use answers::NO_SUCH_ISLAND;
-use answers::NO_SUCH_KIND;
-use answers::NO_SUCH_TRACK;
-use answers::NOT_CLEAR;
-use islands::Island;
-use station::Station;
+ghost use Rattle.rules.specs.Numbers.{already as Numbers·already, answerOf, formAnswer, known as Numbers·known, namesIsland, placeAnswer, stateAnswer, wrongFields};
+ghost use Rattle.rules.specs.Reports.{kindOf};
+use rules::ALREADY_SO;
+use rules::BAD_FIELD;
+use rules::CLOCK;
+use rules::DETECTOR_FAILED;
+use rules::DETECTOR_RESTORED;
+use rules::DONE;
+use rules::HEAD_CONDITION;
+use rules::ISLAND_FREE;
+use rules::ISLAND_OCCUPIED;
+use rules::Island;
+use rules::NO_SUCH_HEAD;
+use rules::NO_SUCH_ISLAND;
+use rules::NO_SUCH_KIND;
+use rules::NO_SUCH_TRACK;
+use rules::NORMALISE;
+use rules::NOT_CLEAR;
+use rules::Report;
+use rules::Station;
 
 // The number that a report is answered with, 0 to 8.
 pub fn answer(station: Station, report: Report) -> u8
@@ -46,7 +53,7 @@ fn form_answer(report: Report) -> u8
 }
 
 fn known(kind: u8) -> bool
-    ensures { λ r. ⌜ r ≡ Answer·known (kindOf kind) ⌝ }
+    ensures { λ r. ⌜ r ≡ Numbers·known (kindOf kind) ⌝ }
 {
     (1 <= kind) & (kind <= 7)
 }
@@ -56,9 +63,9 @@ fn wrong_fields(report: Report) -> bool
 {
     let kind = report.kind;
     match kind {
-        3 => (report.a != 0) | (report.b != 0) | (report.value == 0),
-        6 => (report.b != 0) | (1023 < report.value),
-        7 => (report.a != 0) | (report.b != 0) | (report.value != 0),
+        CLOCK => (report.a != 0) | (report.b != 0) | (report.value == 0),
+        HEAD_CONDITION => (report.b != 0) | (1023 < report.value),
+        NORMALISE => (report.a != 0) | (report.b != 0) | (report.value != 0),
         _ => names_island(kind) & (report.value != 0),
     }
 }
@@ -102,13 +109,13 @@ fn state_answer(station: Station, report: Report) -> u8
 }
 
 fn already(kind: u8, island: Island) -> bool
-    ensures { λ r. ⌜ r ≡ Answer·already (kindOf kind) island ⌝ }
+    ensures { λ r. ⌜ r ≡ Numbers·already (kindOf kind) island ⌝ }
 {
     match kind {
-        1 => island.occupied,
-        2 => !island.occupied,
-        4 => island.failed,
-        5 => !island.failed,
+        ISLAND_OCCUPIED => island.occupied,
+        ISLAND_FREE => !island.occupied,
+        DETECTOR_FAILED => island.failed,
+        DETECTOR_RESTORED => !island.failed,
         _ => false,
     }
 }

@@ -6,13 +6,13 @@ mod runs;
 use printing::end;
 use printing::number;
 use printing::row;
+use rules::Seconds;
+use rules::Station;
 use runs::clock;
 use runs::freed;
 use runs::normalised;
 use runs::occupied;
 use runs::outputs;
-use siting::Seconds;
-use station::Station;
 
 fn main() {
     one_and_two();

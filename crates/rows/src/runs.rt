@@ -1,8 +1,8 @@
 // Stations on which reports have been taken. A report that is refused on the way shows in the output.
-use islands::Settings;
 use libc::STDOUT_FILENO;
-use reports::Report;
-use station::Station;
+use rules::Report;
+use rules::Settings;
+use rules::Station;
 
 // Settings 2 tracks, 300, 300, 300, T4, 600.
 pub(crate) fn fresh(t4: u16) -> Station {
@@ -57,7 +57,7 @@ fn taken(station: Station, kind: u8, a: u8, b: u8, value: u16) -> Station {
         value,
     };
     let taken = reports::take(station, report);
-    if taken.answer != answers::DONE {
+    if taken.answer != rules::DONE {
         io::write_all(STDOUT_FILENO, b" refused");
     }
     taken.station

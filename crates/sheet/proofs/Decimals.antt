@@ -1,15 +1,16 @@
 -- A number's fewest decimal digits are the definition's, and how many they are.
-use mathlib.Core.Path.{_≡_, refl, sym, ap}
+use mathlib.Core.Path.{_≡_, refl, sym, ap, ap₂, _∙_}
 use mathlib.Core.Bool.{Bool, true, false, cond}
 use mathlib.Core.Logic.{⊎-elim}
-use Prim.Native.Nat.{ℕ, zero, suc, _+_, _-_, _/_, _^_, _≤_, _<_}
+use mathlib.Core.List.{List, [], _∷_, _++_}
+use Prim.Native.Nat.{ℕ, zero, suc, _+_, _-_, _/_, _%_, _^_, _≤_, _<_}
 use native.Mathlib.Nat.{add-suc, add-zero, suc-add, eq-or-lt-of-le, pow-le-pow-right}
 use native.Mathlib.Omega.{arith}
 use lib.Dec.{lit<, ltb}
 use lib.ListN.{length, length-append}
-use borrow.Author.Tests.{ltb-true, ltb-false}
-use Rattle.io.specs.Digits.{digits, Fewest}
-use Rattle.sheet.specs.Text.{decimal, placesFrom}
+use borrow.Author.Tests.{lt-ltb, ltb-true, ltb-false}
+use Rattle.io.specs.Digits.{Fewest, digits}
+use Rattle.rules.specs.Printer.{decimal, lastDigits, placesFrom}
 
 -- what holds in both cases of a test
 pub by-test : {A : Type 0} (P : A → Type 0) (t : Bool) {a b : A} → (t ≡ true → P a) → (t ≡ false → P b) → P (cond t a b)
@@ -40,12 +41,18 @@ fewest (suc more) least n r h f =
     by-test (λ k. r ≡ k) (ltb n (10 ^ least)) (λ t. only n least r f (ltb-true n (10 ^ least) t))
     (λ t. fewest more (suc least) n r (rw (add-suc, ← suc-add) at h) (more-than n least r f (ltb-false n (10 ^ least) t)))
 
+-- the kit's digits are letters from ten on, and a decimal one is not
+same-digits : (k n : ℕ) → digits 10 k n ≡ lastDigits k n
+same-digits zero n = refl
+same-digits (suc k) n =
+    ap₂ (λ (l : List ℕ) (b : Bool). l ++ (cond b (48 + n % 10) (87 + n % 10) ∷ [])) (same-digits k (n / 10)) (lt-ltb (n % 10) 10 (omega arith))
+
 -- So a u64's digits, as `io::decimal` writes them, are the definition's.
 pub decimal-is : (n r : ℕ) → n < 10 ^ 20 → Fewest 10 1 n r → digits 10 r n ≡ decimal n
 unfolding decimal
-decimal-is n r h f = ap (λ k. digits 10 k n) (fewest 20 1 n r (omega arith) f)
+decimal-is n r h f = same-digits r n ∙ ap (λ k. lastDigits k n) (fewest 20 1 n r (omega arith) f)
 
-digits-length : (k n : ℕ) → length (digits 10 k n) ≡ k
+digits-length : (k n : ℕ) → length (lastDigits k n) ≡ k
 digits-length zero n = refl
 digits-length (suc k) n = rw length-append (omega (arith, digits-length k (n / 10)))
 

@@ -8,8 +8,8 @@ use lib.ListN.{length, take, drop, length-append, length-drop}
 use lib.Seq.{drop-append-add, drop-drop, length-take-le, take-append-seam}
 use borrow.Author.Tests.{le-leb, lt-leb}
 use Rattle.io.specs.Counts.{Counts}
-use Rattle.register.specs.Writing.{put}
-use Rattle.sheet.specs.Text.{fits, written, lengthWritten}
+use Rattle.rules.specs.Printer.{fits, lengthWritten, written}
+use Rattle.rules.specs.Register.{put}
 
 -- b with a text at its start
 abbrev pub begun : List ℕ → List ℕ → List ℕ

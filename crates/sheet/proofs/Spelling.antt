@@ -3,10 +3,9 @@ use mathlib.Core.Path.{_≡_, ap}
 use mathlib.Core.List.{List, [], _∷_, _++_, append-assoc, append-nil}
 use Prim.Native.Nat.{ℕ}
 use borrow.Author.Tests.{eq-eqb, ne-eqb}
-use Rattle.answers.specs.Numbers.{notReplayed}
-use Rattle.sheet.specs.Lines.{outputText, refusalLine, rowLine, zoneText}
-use Rattle.sheet.specs.Text.{decimal, lineFeed, space}
-use Rattle.sheet.specs.declared.RowFields.{RowFields}
+use Rattle.rules.specs.Answers.{notReplayed}
+use Rattle.rules.specs.Printer.{decimal, lineFeed, outputText, refusalLine, rowLine, space, zoneText}
+use Rattle.rules.specs.declared.RowFields.{RowFields}
 
 -- `refused `
 abbrev pub refused : List ℕ

@@ -1,4 +1,1 @@
-pub mod Lines
-pub mod Printed
-pub mod Text
 pub mod Zones

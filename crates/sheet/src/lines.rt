@@ -2,13 +2,12 @@
 ghost use mathlib.Core.List.{_++_};
 ghost use mathlib.Core.Path.{_≡_};
 ghost use Rattle.io.specs.Counts.{Counts};
-ghost use Rattle.sheet.specs.Lines.{outputText, refusalLine, rowLine, title, zoneText};
-ghost use Rattle.sheet.specs.Text.{lengthWritten, space, written, zeroOrOne};
-use crate::RowFields;
+ghost use Rattle.rules.specs.Printer.{lengthWritten, outputText, refusalLine, rowLine, space, title, written, zeroOrOne, zoneText};
 use crate::text::line;
 use crate::text::number_text;
-use answers::NOT_REPLAYED;
-use station::ZoneDigits;
+use rules::NOT_REPLAYED;
+use rules::RowFields;
+use rules::ZoneDigits;
 
 // Writes the title line at the start of out, and answers its length. Where it does not fit,
 // nothing is written and the answer is 0. (That the length counts bytes of out follows from the

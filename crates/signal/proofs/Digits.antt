@@ -8,7 +8,7 @@ use native.Mathlib.Numerals.{add-one}
 use native.Mathlib.Omega.{arith}
 use lib.Dec.{eqb, lit<}
 use lib.Pow.{mod-pow-add, shr-shr}
-use Rattle.signal.specs.Heads.{bit}
+use Rattle.rules.specs.Heads.{bit}
 
 -- x's bits at the n places from j up
 abbrev pub digits : ℕ → ℕ → ℕ → List Bool

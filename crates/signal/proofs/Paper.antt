@@ -3,7 +3,7 @@ use mathlib.Core.Path.{_≡_, refl, ap}
 use mathlib.Core.List.{[], _∷_, map}
 use Prim.Native.Nat.{ℕ, _<_}
 use lib.ListN.{List·getD-eq-default}
-use Rattle.signal.specs.Outputs.{bits, outputsOf, permitted, clearing, forbidden, greatestRisk, surroundings, outOfService}
+use Rattle.rules.specs.Outputs.{bits, clearing, forbidden, greatestRisk, outOfService, outputsOf, permitted, surroundings}
 
 pub paper-outputs : map outputsOf (0 ∷ 1 ∷ 2 ∷ 3 ∷ 4 ∷ 5 ∷ []) ≡ 1 ∷ 34 ∷ 72 ∷ 152 ∷ 260 ∷ 0 ∷ []
 unfolding outputsOf

@@ -10,8 +10,8 @@ use lib.Count.{ones}
 use lib.Dec.{eqb, ltb}
 use lib.ListN.{take, drop, replicate}
 use borrow.Author.Tests.{eqb-true, le-ltb, lt-ltb, ltb-false, ltb-true}
-use Rattle.signal.specs.Heads.{bit, communicationFailed, failedSounders, headOutputs, howMany, lampFailed, out, powerFailed, those}
-use Rattle.signal.specs.Outputs.{Column, bits, columns, place}
+use Rattle.rules.specs.Heads.{bit, communicationFailed, failedSounders, headOutputs, howMany, lampFailed, out, powerFailed, those}
+use Rattle.rules.specs.Outputs.{Column, bits, columns, place}
 use Rattle.signal.proofs.Digits.{digits, field, low, value}
 use Rattle.signal.proofs.Table.{atList}
 

@@ -1,20 +1,7 @@
 // What an aspect shows, and what a head with failed parts still shows of it.
 ghost use mathlib.Core.Path.{_≡_};
-ghost use Rattle.signal.specs.Heads.{headOutputs};
-ghost use Rattle.signal.specs.Outputs.{outputsOf};
-
-// The aspects by number, as document 01 lists them.
-pub const PERMITTED: u8 = 0;
-
-pub const CLEARING: u8 = 1;
-
-pub const FORBIDDEN: u8 = 2;
-
-pub const GREATEST_RISK: u8 = 3;
-
-pub const SURROUNDINGS: u8 = 4;
-
-pub const OUT_OF_SERVICE: u8 = 5;
+ghost use Rattle.rules.specs.Heads.{headOutputs};
+ghost use Rattle.rules.specs.Outputs.{outputsOf};
 
 // Bit 0 first: VF, VI, NI, RF, R+, S1, S2, S3, S4.
 const OUTPUTS: [u16; 6] = [1, 34, 72, 152, 260, 0];

@@ -5,11 +5,10 @@ use Prim.Native.Nat.{ℕ, _*_, _≤_}
 use native.Mathlib.Nat.{le-trans, mul-le-mul}
 use lib.Dec.{T, leb, lit≤}
 use borrow.Author.Tests.{leb-true}
-use Rattle.answers.specs.FirstRefusal.{_if_then_}
-use Rattle.answers.specs.Limits.{within}
-use Rattle.answers.specs.Numbers.{done, outsideLimits}
-use Rattle.siting.specs.Siting.{sited, speedGood}
-use Rattle.siting.specs.declared.Sited.{Sited}
+use Rattle.rules.specs.Answers.{done, outsideLimits}
+use Rattle.rules.specs.Siting.{sited, speedGood}
+use Rattle.rules.specs.Words.{within, _if_then_}
+use Rattle.rules.specs.declared.Sited.{Sited}
 
 -- the speed v is good, and so is the second number x, from l to m
 abbrev pub good : ℕ → ℕ → ℕ → ℕ → Bool

@@ -1,53 +1,13 @@
 // Document 01, "Siting": how far from the crossing the detectors stand.
 ghost use mathlib.Core.Path.{_≡_};
 ghost use Prim.Native.Nat.{_≤_};
-ghost use Rattle.siting.specs.Siting.{advanceSited, roundedUp, sited, warningSited};
-ghost use Rattle.answers.specs.Numbers.{done, outsideLimits};
-use answers::DONE;
-use answers::OUTSIDE_LIMITS;
-
-// A time. No distance is ever taken for one: the two are types of their own.
-#[repr(C)]
-pub struct Seconds(pub u16);
-
-// A distance.
-#[repr(C)]
-pub struct Metres(pub u16);
-
-// An answer, 0 or 8, and the distance, which is 0 where the answer is not.
-#[repr(C)]
-pub struct Sited {
-    pub answer: u8,
-    pub distance: Metres,
-}
-
-impl Seconds {
-    pub fn of(number: u16) -> Self
-        ensures { λ r. ⌜ r ≡ record { 0 = number } ⌝ }
-    {
-        Self(number)
-    }
-
-    pub fn number(self) -> u16
-        ensures { λ r. ⌜ r ≡ self .0 ⌝ }
-    {
-        self.0
-    }
-}
-
-impl Metres {
-    pub fn of(number: u16) -> Self
-        ensures { λ r. ⌜ r ≡ record { 0 = number } ⌝ }
-    {
-        Self(number)
-    }
-
-    pub fn number(self) -> u16
-        ensures { λ r. ⌜ r ≡ self .0 ⌝ }
-    {
-        self.0
-    }
-}
+ghost use Rattle.rules.specs.Answers.{done, outsideLimits};
+ghost use Rattle.rules.specs.Siting.{advanceSited, roundedUp, sited, warningSited};
+use rules::DONE;
+use rules::Metres;
+use rules::OUTSIDE_LIMITS;
+use rules::Seconds;
+use rules::Sited;
 
 // The advance distance, for a speed in km/h and the time that the message takes.
 pub fn advance(speed: u16, message: Seconds) -> Sited

@@ -11,21 +11,17 @@ use mathlib.Core.List.{List, map}
 use borrow.Author.Tests.{ltb-true, ltb-false}
 use lib.Dec.{leb, ltb}
 use Rattle.islands.proofs.Below.{any-alike, any-map, any-none, any-only, changed-take}
-use Rattle.islands.proofs.Settled.{late-at-last, late-if-occupied, no-fresh-then}
+use Rattle.islands.proofs.Settled.{late-at-last, late-if-occupied, no-fresh-then, occupiedIn}
 use Rattle.islands.proofs.Turned.{tracks-now, tracks-older}
-use Rattle.islands.specs.Ageing.{late, olderTrack, warningOccupied}
-use Rattle.islands.specs.Fresh.{present, someFresh}
-use Rattle.islands.specs.Islands.{Zone, timer}
-use Rattle.islands.specs.Lists.{any, count}
 use Rattle.islands.specs.Turns.{laterTrack}
-use Rattle.islands.specs.declared.Settings.{Settings}
-use Rattle.islands.specs.declared.Track.{Track}
+use Rattle.rules.specs.Aspect.{greatestRisk, present, someFresh}
+use Rattle.rules.specs.Reports.{allOlder, faultLatched, holdLowered, holdSet, late, olderTrack, tick, ticks}
+use Rattle.rules.specs.Station.{Zone, isWarning, live, timer, withConditions}
+use Rattle.rules.specs.Words.{any, count}
+use Rattle.rules.specs.declared.Settings.{Settings}
+use Rattle.rules.specs.declared.Station.{Station}
+use Rattle.rules.specs.declared.Track.{Track}
 use Rattle.station.proofs.Timing.{riskOf}
-use Rattle.station.specs.Aspect.{greatestRisk}
-use Rattle.station.specs.Clock.{allOlder, faultLatched, holdLowered, holdSet, tick, ticks}
-use Rattle.station.specs.Station.{live}
-use Rattle.station.specs.With.{withConditions}
-use Rattle.station.specs.declared.Station.{Station}
 
 -- ---- ticks add up, and read no head condition
 
@@ -108,17 +104,17 @@ module _ (s : Station) where
       ap₂ (λ (d : Settings) (l : List Track). any (late d) l) (ticks-settings n s) (ticks-live (suc n) s) ∙ any-map (laterTrack (suc n)) (late (s .settings)) (live s)
 
   -- n ticks later the fault is latched only where it was, or where a warning island is occupied,
-  fault-only : (n : ℕ) → ticks n s .fault || any warningOccupied (live s) ≡ s .fault || any warningOccupied (live s)
+  fault-only : (n : ℕ) → ticks n s .fault || any (occupiedIn isWarning) (live s) ≡ s .fault || any (occupiedIn isWarning) (live s)
   unfolding ticks tick holdSet faultLatched allOlder holdLowered
   fault-only zero = refl
   fault-only (suc n) =
-      ap (λ (b : Bool). ticks n s .fault || b || any warningOccupied (live s)) (late-after n)
+      ap (λ (b : Bool). ticks n s .fault || b || any (occupiedIn isWarning) (live s)) (late-after n)
       ∙ or-assoc (ticks n s .fault) _ _
       ∙ ap (λ (b : Bool). ticks n s .fault || b) (any-only _ _ (λ t. late-if-occupied (s .settings) (suc n) t) (live s))
       ∙ fault-only n
 
   -- and from T5 on it is.
-  pub fault-then : s .settings .t5 ≤ 65535 → (n : ℕ) → s .settings .t5 ≤ suc n → ticks (suc n) s .fault ≡ s .fault || any warningOccupied (live s)
+  pub fault-then : s .settings .t5 ≤ 65535 → (n : ℕ) → s .settings .t5 ≤ suc n → ticks (suc n) s .fault ≡ s .fault || any (occupiedIn isWarning) (live s)
   unfolding ticks tick holdSet faultLatched allOlder holdLowered
   fault-then limit n long =
       ap (λ (b : Bool). ticks n s .fault || b) (late-after n ∙ any-alike _ _ (λ t. late-at-last (s .settings) (suc n) t limit long) (live s)) ∙ fault-only n

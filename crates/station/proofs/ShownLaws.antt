@@ -7,19 +7,17 @@ use mathlib.Core.Bool.{Bool, true, false, cond, not, _||_, or-false, or-true}
 use mathlib.Core.List.{List, [], _∷_, map}
 use lib.Dec.{ltb}
 use lib.ListN.{getD, length, replicate, take}
-use Rattle.answers.specs.FirstRefusal.{_if_then_}
 use Rattle.islands.proofs.Below.{any-more, take-least}
-use Rattle.islands.specs.Islands.{islandAt, withinLimits}
-use Rattle.islands.specs.Lists.{any}
-use Rattle.islands.specs.declared.Track.{Track}
-use Rattle.station.specs.Aspect.{aspectOf, greatestRisk}
-use Rattle.station.specs.Clock.{holdSet}
+use Rattle.rules.specs.Aspect.{aspectOf, greatestRisk}
+use Rattle.rules.specs.Printer.{zoneOccupied, zonesOf}
+use Rattle.rules.specs.Reports.{holdSet}
+use Rattle.rules.specs.Station.{islandAt, live, withinLimits}
+use Rattle.rules.specs.Words.{any, _if_then_}
+use Rattle.rules.specs.declared.Station.{Station}
+use Rattle.rules.specs.declared.Track.{Track}
 use Rattle.station.specs.Settled.{settledOf}
-use Rattle.station.specs.Shown.{zoneOccupied, zonesOf}
-use Rattle.station.specs.Station.{live}
 use Rattle.station.specs.Survey.{risky, surveyOf}
 use Rattle.station.specs.declared.Settled.{Settled}
-use Rattle.station.specs.declared.Station.{Station}
 use Rattle.station.specs.declared.surveying.Survey.{Survey}
 
 -- two tests in a row that give one number

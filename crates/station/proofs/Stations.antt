@@ -5,14 +5,13 @@ use mathlib.Core.Path.{_≡_, refl, sym, ap, _∙_}
 use mathlib.Core.Bool.{Bool, true, false, cond, _&&_}
 use borrow.Author.Tests.{eq-eqb, ne-eqb}
 use lib.ListN.{take}
-use Rattle.islands.specs.declared.Settings.{Settings}
-use Rattle.station.specs.Aspect.{greatestRisk}
-use Rattle.station.specs.Clock.{holdSet}
-use Rattle.station.specs.Station.{leastSettings, made, settingsAnswer}
+use Rattle.rules.specs.Aspect.{greatestRisk}
+use Rattle.rules.specs.Reports.{holdSet}
+use Rattle.rules.specs.Station.{freshStation, leastSettings, made, settingsAnswer, withHold}
+use Rattle.rules.specs.declared.Made.{Made}
+use Rattle.rules.specs.declared.Settings.{Settings}
+use Rattle.rules.specs.declared.Station.{Station}
 use Rattle.station.specs.Survey.{risky, surveyOf}
-use Rattle.station.specs.With.{freshStation, withHold}
-use Rattle.station.specs.declared.Made.{Made}
-use Rattle.station.specs.declared.Station.{Station}
 
 module _ (c : Settings) (n : ℕ) (s : Station) (e : n ≡ settingsAnswer c) where
   pub made-of : n ≡ 0 → s ≡ freshStation c → _≡_ {A = Made} (record { answer = n; station = s }) (made c)

@@ -8,11 +8,11 @@ use mathlib.Core.List.{List}
 use lib.ListN.{length, getD, take}
 use mir.Val.{boolByte}
 use Rattle.islands.proofs.Below.{any-more, count-more}
-use Rattle.islands.specs.Fresh.{someFresh, present, freshNear, freshAdvance, someHeld}
 use Rattle.islands.specs.Signs.{signsOf}
-use Rattle.islands.specs.declared.Settings.{Settings}
 use Rattle.islands.specs.declared.Signs.{Signs}
-use Rattle.islands.specs.declared.Track.{Track}
+use Rattle.rules.specs.Aspect.{freshAdvance, freshNear, present, someFresh, someHeld}
+use Rattle.rules.specs.declared.Settings.{Settings}
+use Rattle.rules.specs.declared.Track.{Track}
 use Rattle.station.specs.Survey.{surveyOf}
 use Rattle.station.specs.declared.surveying.Survey.{Survey}
 

@@ -10,22 +10,19 @@ use mathlib.Core.List.{List, [], _++_, map}
 use borrow.Author.Tests.{le-leb, lt-leb, leb-true, lt-ltb, le-ltb}
 use lib.Dec.{leb, ltb}
 use lib.ListN.{length, getD, take, drop, take-append-drop}
-use Rattle.islands.proofs.Below.{any-more, any-map, changed, changed-drop, changed-take, count-more, count-map}
+use Rattle.islands.proofs.Below.{any-map, any-more, changed, changed-drop, changed-take, count-map, count-more}
 use Rattle.islands.proofs.FreeTracks.{no-fresh, no-late, no-later, no-present}
 use Rattle.islands.proofs.Turned.{below-greater, from-both, from-lesser, tracks-now, tracks-older, turning}
-use Rattle.islands.specs.Ageing.{late, olderTrack}
-use Rattle.islands.specs.Fresh.{present, someFresh}
-use Rattle.islands.specs.Islands.{Zone, someOccupied, timer}
-use Rattle.islands.specs.Lists.{any, count}
 use Rattle.islands.specs.Turns.{Turning, laterTrack, never, turnsOf}
-use Rattle.islands.specs.declared.Settings.{Settings}
-use Rattle.islands.specs.declared.Track.{Track}
 use Rattle.islands.specs.declared.Turns.{Turns}
-use Rattle.station.specs.Aspect.{greatestRisk}
-use Rattle.station.specs.Clock.{allOlder, faultLatched, holdLowered, holdSet, tick, ticks}
-use Rattle.station.specs.Station.{live}
+use Rattle.rules.specs.Aspect.{greatestRisk, present, someFresh}
+use Rattle.rules.specs.Reports.{allOlder, faultLatched, holdLowered, holdSet, late, olderTrack, tick, ticks}
+use Rattle.rules.specs.Station.{Zone, live, someOccupied, timer}
+use Rattle.rules.specs.Words.{any, count}
+use Rattle.rules.specs.declared.Settings.{Settings}
+use Rattle.rules.specs.declared.Station.{Station}
+use Rattle.rules.specs.declared.Track.{Track}
 use Rattle.station.specs.Timetable.{Timed, holdAfter, lowered, riskAt, withTurns}
-use Rattle.station.specs.declared.Station.{Station}
 use Rattle.station.specs.declared.ticking.Timetable.{Timetable}
 
 -- ---- one track more

@@ -1,8 +1,3 @@
-pub mod Aspect
-pub mod Clock
-pub mod Shown
-pub mod Station
+pub mod Settled
 pub mod Survey
 pub mod Timetable
-pub mod With
-pub mod Settled

@@ -2,10 +2,10 @@
 use mathlib.Core.Bool.{Bool, _&&_}
 use mathlib.Core.List.{List}
 use lib.Dec.{leb}
-use Rattle.islands.specs.Fresh.{someFresh, present, freshNear, freshAdvance, someHeld}
-use Rattle.islands.specs.Lists.{any, count}
-use Rattle.islands.specs.declared.Settings.{Settings}
-use Rattle.islands.specs.declared.Track.{Track}
+use Rattle.rules.specs.Aspect.{freshAdvance, freshNear, present, someFresh, someHeld}
+use Rattle.rules.specs.Words.{any, count}
+use Rattle.rules.specs.declared.Settings.{Settings}
+use Rattle.rules.specs.declared.Track.{Track}
 use Rattle.station.specs.declared.surveying.Survey.{Survey}
 
 unfoldable pub surveyOf : Settings → List Track → Survey

@@ -5,13 +5,13 @@ use mathlib.Core.Path.{_≡_}
 use mathlib.Core.Bool.{Bool, cond, not, _&&_}
 use mathlib.Core.List.{List}
 use lib.Dec.{leb, ltb}
-use Rattle.islands.specs.Ageing.{late}
-use Rattle.islands.specs.Fresh.{present, someFresh}
-use Rattle.islands.specs.Lists.{any, count}
 use Rattle.islands.specs.Turns.{laterTrack}
-use Rattle.islands.specs.declared.Settings.{Settings}
-use Rattle.islands.specs.declared.Track.{Track}
 use Rattle.islands.specs.declared.Turns.{Turns}
+use Rattle.rules.specs.Aspect.{present, someFresh}
+use Rattle.rules.specs.Reports.{late}
+use Rattle.rules.specs.Words.{any, count}
+use Rattle.rules.specs.declared.Settings.{Settings}
+use Rattle.rules.specs.declared.Track.{Track}
 use Rattle.station.specs.declared.ticking.Timetable.{Timetable}
 
 -- n ticks later some track has a fresh approaching island exactly when n is below the first number; at least one track counts for the greatest risk

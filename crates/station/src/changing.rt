@@ -1,10 +1,9 @@
 // A station with one thing changed.
 ghost use mathlib.Core.Path.{_≡_};
-ghost use Rattle.station.specs.Station.{trackAt, withCondition, withTrack};
-ghost use Rattle.station.specs.With.{withFault, withHold};
-use crate::Station;
+ghost use Rattle.rules.specs.Station.{trackAt, withCondition, withFault, withHold, withTrack};
 use crate::making::free_track;
-use islands::Track;
+use rules::Station;
+use rules::Track;
 
 // The track with this number; past the last one, a free track.
 pub fn track_at(station: Station, number: u8) -> Track

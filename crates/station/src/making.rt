@@ -1,15 +1,13 @@
 // Document 01, "What the station is": how a station is made.
 ghost use mathlib.Core.Path.{_≡_};
-ghost use Rattle.islands.specs.Islands.{freeTrack};
-ghost use Rattle.station.specs.Station.{leastSettings, made, settingsAnswer};
-ghost use Rattle.station.specs.With.{freshStation};
-use crate::Made;
-use crate::Station;
-use answers::DONE;
-use answers::OUTSIDE_LIMITS;
-use islands::Island;
-use islands::Settings;
-use islands::Track;
+ghost use Rattle.rules.specs.Station.{freeTrack, freshStation, leastSettings, made, settingsAnswer};
+use rules::DONE;
+use rules::Island;
+use rules::Made;
+use rules::OUTSIDE_LIMITS;
+use rules::Settings;
+use rules::Station;
+use rules::Track;
 
 // 0, or 8 where a setting is outside its limits.
 pub fn settings_answer(settings: Settings) -> u8

@@ -4,32 +4,30 @@ ghost use mathlib.Core.Bool.{_&&_, _||_, cond, false};
 ghost use mathlib.Core.List.{[], _∷_, map};
 ghost use lib.Dec.{ltb};
 ghost use lib.ListN.{getD, take};
-ghost use Rattle.answers.specs.FirstRefusal.{_if_then_};
-ghost use Rattle.islands.specs.Fresh.{present as Fresh·present};
-ghost use Rattle.islands.specs.Islands.{islandAt};
-ghost use Rattle.islands.specs.Lists.{any};
-ghost use Rattle.station.specs.Aspect.{aspectOf};
+ghost use Rattle.rules.specs.Aspect.{aspectOf, presenceOf, present as Aspect·present};
+ghost use Rattle.rules.specs.Heads.{headsOf};
+ghost use Rattle.rules.specs.Printer.{zonesOf};
+ghost use Rattle.rules.specs.Station.{islandAt, trackAt};
+ghost use Rattle.rules.specs.Words.{any, _if_then_};
 ghost use Rattle.station.specs.Settled.{settledOf};
-ghost use Rattle.station.specs.Station.{trackAt};
-ghost use Rattle.station.specs.Shown.{headsOf, presenceOf, zonesOf};
-use crate::HeadOutputs;
 use crate::Settled;
-use crate::Station;
-use crate::TrackPresence;
-use crate::ZoneDigits;
 use crate::changing::track_at;
 use crate::surveying::live_tracks;
 use crate::surveying::look_over;
 use crate::surveying::risk_in;
 use crate::ticking::held_up;
-use islands::Settings;
-use islands::Track;
-use signal::CLEARING;
-use signal::FORBIDDEN;
-use signal::GREATEST_RISK;
-use signal::OUT_OF_SERVICE;
-use signal::PERMITTED;
-use signal::SURROUNDINGS;
+use rules::CLEARING;
+use rules::FORBIDDEN;
+use rules::GREATEST_RISK;
+use rules::HeadOutputs;
+use rules::OUT_OF_SERVICE;
+use rules::PERMITTED;
+use rules::SURROUNDINGS;
+use rules::Settings;
+use rules::Station;
+use rules::Track;
+use rules::TrackPresence;
+use rules::ZoneDigits;
 
 // The aspect, 0 to 5. A station whose settings are outside their limits shows 5.
 pub fn aspect(station: Station) -> u8
@@ -179,7 +177,7 @@ pub fn presence(station: Station) -> TrackPresence
 }
 
 fn present(station: Station, number: u8) -> bool
-    ensures { λ r. ⌜ r ≡ (ltb number (station .settings .tracks) && Fresh·present (station .settings) (trackAt station number)) ⌝ }
+    ensures { λ r. ⌜ r ≡ (ltb number (station .settings .tracks) && Aspect·present (station .settings) (trackAt station number)) ⌝ }
 {
     let signs = islands::signs_of(station.settings, track_at(station, number));
     (number < station.settings.tracks) & signs.present

@@ -2,12 +2,12 @@
 ghost use mathlib.Core.Path.{_≡_};
 ghost use Prim.Native.Nat.{min};
 ghost use lib.ListN.{take};
-ghost use Rattle.station.specs.Clock.{holdSet};
-ghost use Rattle.station.specs.Station.{obstructed};
+ghost use Rattle.rules.specs.Reports.{holdSet};
+ghost use Rattle.rules.specs.Station.{obstructed};
 ghost use Rattle.station.specs.Survey.{risky, surveyOf};
-use crate::Station;
-use islands::Settings;
-use islands::Track;
+use rules::Settings;
+use rules::Station;
+use rules::Track;
 
 // The tracks' signs together, and how many tracks count for the greatest risk.
 pub(crate) struct Survey {

@@ -8,13 +8,13 @@ ghost use mathlib.Core.Bool.{cond};
 ghost use mathlib.Core.List.{_++_, map};
 ghost use lib.ListN.{drop, take};
 ghost use Rattle.islands.specs.Turns.{laterTrack};
-ghost use Rattle.station.specs.Clock.{ticks};
+ghost use Rattle.rules.specs.Reports.{ticks};
 ghost use Rattle.station.specs.Timetable.{Timed, holdAfter, lowered as Timetable·lowered, riskAt, withTurns};
-use crate::Station;
 use crate::surveying::live_tracks;
-use islands::Settings;
-use islands::Track;
 use islands::Turns;
+use rules::Settings;
+use rules::Station;
+use rules::Track;
 
 // When the signs of the tracks turn: until when a track has a fresh approaching island, from when
 // one track counts for the greatest risk, from when two do, and from when the fault latches.

@@ -2,7 +2,7 @@
 -- number above them shows nothing.
 use mathlib.Core.Path.{sym}
 use borrow.Author.Needs.{needs}
-use Rattle.signal.specs.Outputs.{outputsOf}
+use Rattle.rules.specs.Outputs.{outputsOf}
 use Rattle.signal.proofs.Paper.{above-five}
 use Rattle.signal.proofs.Table.{entry}
 use Rattle.signal.proofs.outputs.Statement.{statement}

@@ -2,10 +2,10 @@
 -- Assumes nothing.
 use native.Mathlib.Omega.{arith}
 use lib.Dec.{leb·zero}
-use Rattle.siting.specs.Siting.{advanceMetres, advanceSited}
+use Rattle.rules.specs.Siting.{advanceMetres, advanceSited}
 use Rattle.siting.proofs.Within.{bounds, good, met, missed, product}
-use borrow.Author.Needs.{needs}
 use Rattle.siting.proofs.advance.Statement.{statement}
+use borrow.Author.Needs.{needs}
 use Rattle.siting.proofs.advance.Tie as tie
 
 number-requires : tie.Need-number-requires

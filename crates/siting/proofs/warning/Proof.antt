@@ -5,10 +5,10 @@ use mathlib.Core.Bool.{_&&_, and-assoc}
 use Prim.Native.Nat.{ℕ}
 use native.Mathlib.Omega.{arith}
 use lib.Dec.{leb}
-use Rattle.siting.specs.Siting.{speedGood, warningMetres, warningSited}
+use Rattle.rules.specs.Siting.{speedGood, warningMetres, warningSited}
 use Rattle.siting.proofs.Within.{bounds, good, met, missed, product}
-use borrow.Author.Needs.{needs}
 use Rattle.siting.proofs.warning.Statement.{statement}
+use borrow.Author.Needs.{needs}
 use Rattle.siting.proofs.warning.Tie as tie
 
 -- the code's test, grouped as the definition's

@@ -1,8 +1,8 @@
 -- `detector_now`: what the callees ensure of the island, put together.
 -- Assumes nothing.
-use Rattle.islands.specs.Mark.{detectorNow}
-use borrow.Author.Needs.{needs}
 use Rattle.islands.proofs.marks.detector_now.Statement.{statement}
+use Rattle.rules.specs.Reports.{detectorNow}
+use borrow.Author.Needs.{needs}
 use Rattle.islands.proofs.marks.detector_now.Tie as tie
 
 island-at-requires : tie.Need-island-at-requires

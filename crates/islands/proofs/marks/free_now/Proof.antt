@@ -1,8 +1,8 @@
 -- `free_now`: what the callees ensure of the island, put together.
 -- Assumes nothing.
-use Rattle.islands.specs.Mark.{freeNow}
-use borrow.Author.Needs.{needs}
 use Rattle.islands.proofs.marks.free_now.Statement.{statement}
+use Rattle.rules.specs.Reports.{freeNow}
+use borrow.Author.Needs.{needs}
 use Rattle.islands.proofs.marks.free_now.Tie as tie
 
 island-at-requires : tie.Need-island-at-requires

@@ -1,13 +1,13 @@
 -- `island_at`: past the last island the definition gives a free one.
 -- Assumes nothing.
 use Rattle.islands.proofs.Listed.{counted}
+use Rattle.islands.proofs.marks.island_at.Statement.{statement}
+use Rattle.rules.specs.Station.{free}
 use mathlib.Core.Path.{_≡_, sym}
 use Prim.Native.Nat.{_≤_}
-use Rattle.islands.specs.Islands.{free}
 use lib.ListN.{length, List·getD-eq-default}
 use native.Mathlib.Omega.{arith}
 use borrow.Author.Needs.{needs}
-use Rattle.islands.proofs.marks.island_at.Statement.{statement}
 use Rattle.islands.proofs.marks.island_at.Tie as tie
 
 mul-result : tie.Need-mul-result

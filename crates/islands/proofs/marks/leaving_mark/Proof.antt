@@ -1,10 +1,10 @@
 -- `leaving_mark`: an arm for each island that can be leaving; any other number is the crossing or no island.
 -- Assumes nothing.
 use mathlib.Core.Path.{sym, ap}
-use Rattle.islands.specs.Mark.{leavingMark}
 use Rattle.islands.proofs.Islands.{never-leaving}
-use borrow.Author.Needs.{needs}
 use Rattle.islands.proofs.marks.leaving_mark.Statement.{statement}
+use Rattle.rules.specs.Reports.{leavingMark}
+use borrow.Author.Needs.{needs}
 use Rattle.islands.proofs.marks.leaving_mark.Tie as tie
 
 array-copy-out-advance-1 : tie.Need-array-copy-out-advance-1

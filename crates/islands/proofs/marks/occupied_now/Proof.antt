@@ -1,8 +1,8 @@
 -- `occupied_now`: what the callees ensure of the island, put together.
 -- Assumes nothing.
-use Rattle.islands.specs.Mark.{occupiedNow}
-use borrow.Author.Needs.{needs}
 use Rattle.islands.proofs.marks.occupied_now.Statement.{statement}
+use Rattle.rules.specs.Reports.{occupiedNow}
+use borrow.Author.Needs.{needs}
 use Rattle.islands.proofs.marks.occupied_now.Tie as tie
 
 island-at-requires : tie.Need-island-at-requires

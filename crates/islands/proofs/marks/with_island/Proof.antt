@@ -6,10 +6,10 @@ use lib.ListN.{length}
 use lib.Seq.{set-out}
 use native.Mathlib.Omega.{arith}
 use Rattle.islands.proofs.Listed.{counted}
-use Rattle.islands.specs.Mark.{withIsland}
-use Rattle.islands.specs.declared.Island.{Island}
-use borrow.Author.Needs.{needs}
 use Rattle.islands.proofs.marks.with_island.Statement.{statement}
+use Rattle.rules.specs.Reports.{withIsland}
+use Rattle.rules.specs.declared.Island.{Island}
+use borrow.Author.Needs.{needs}
 use Rattle.islands.proofs.marks.with_island.Tie as tie
 
 mul-islands : tie.Need-mul-islands

@@ -1,13 +1,13 @@
 -- `some_failed`: some island of five, as the law for any test of islands has it.
 -- Assumes nothing.
+use Rattle.islands.proofs.Islands.{any-of-five}
 use Rattle.islands.proofs.Listed.{counted}
-use Rattle.islands.specs.declared.Island.{Island}
+use Rattle.islands.proofs.shown.some_failed.Statement.{statement}
+use Rattle.rules.specs.Station.{someFailed}
+use Rattle.rules.specs.declared.Island.{Island}
 use mathlib.Core.Path.{_≡_}
 use lib.ListN.{length}
-use Rattle.islands.specs.Islands.{someFailed}
-use Rattle.islands.proofs.Islands.{any-of-five}
 use borrow.Author.Needs.{needs}
-use Rattle.islands.proofs.shown.some_failed.Statement.{statement}
 use Rattle.islands.proofs.shown.some_failed.Tie as tie
 
 element-copy-out-result : tie.Need-element-copy-out-result

@@ -1,11 +1,11 @@
 -- `act`: an arm for each kind.
 -- Assumes nothing.
 use mathlib.Core.Path.{sym, ap, _∙_}
-use Rattle.reports.specs.Reports.{Kind, acted, kindOf}
 use Rattle.reports.proofs.ByNumber.{no-kind}
 use Rattle.reports.proofs.Taking.{meant}
-use borrow.Author.Needs.{needs}
 use Rattle.reports.proofs.acting.act.Statement.{statement}
+use Rattle.rules.specs.Reports.{Kind, acted, kindOf}
+use borrow.Author.Needs.{needs}
 use Rattle.reports.proofs.acting.act.Tie as tie
 
 occupied-requires : tie.Need-occupied-requires

@@ -1,10 +1,9 @@
 -- `conditioned`: the condition changed, then the hold set.
 -- Assumes nothing.
 use mathlib.Core.Path.{ap, _∙_}
-use Rattle.station.specs.Clock.{holdSet}
-use Rattle.reports.specs.Reports.{acted}
-use borrow.Author.Needs.{needs}
 use Rattle.reports.proofs.acting.conditioned.Statement.{statement}
+use Rattle.rules.specs.Reports.{acted, holdSet}
+use borrow.Author.Needs.{needs}
 use Rattle.reports.proofs.acting.conditioned.Tie as tie
 
 with-condition-requires : tie.Need-with-condition-requires

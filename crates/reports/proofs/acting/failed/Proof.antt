@@ -2,14 +2,12 @@
 -- Assumes nothing.
 use mathlib.Core.Path.{ap, _∙_}
 use mathlib.Core.Bool.{true}
-use Rattle.station.specs.Clock.{holdSet}
-use Rattle.station.specs.With.{withFault}
-use Rattle.station.specs.declared.Station.{Station}
-use Rattle.islands.specs.Mark.{detectorNow}
-use Rattle.reports.specs.Reports.{acted}
 use Rattle.reports.proofs.Taking.{named}
-use borrow.Author.Needs.{needs}
 use Rattle.reports.proofs.acting.failed.Statement.{statement}
+use Rattle.rules.specs.Reports.{acted, detectorNow, holdSet}
+use Rattle.rules.specs.Station.{withFault}
+use Rattle.rules.specs.declared.Station.{Station}
+use borrow.Author.Needs.{needs}
 use Rattle.reports.proofs.acting.failed.Tie as tie
 
 track-at-requires : tie.Need-track-at-requires

@@ -1,12 +1,10 @@
 -- `freed`: the named island changed, then the hold set.
 -- Assumes nothing.
 use mathlib.Core.Path.{ap, _∙_}
-use Rattle.station.specs.Clock.{holdSet}
-use Rattle.islands.specs.Mark.{freeNow}
-use Rattle.reports.specs.Reports.{acted}
 use Rattle.reports.proofs.Taking.{named}
-use borrow.Author.Needs.{needs}
 use Rattle.reports.proofs.acting.freed.Statement.{statement}
+use Rattle.rules.specs.Reports.{acted, freeNow, holdSet}
+use borrow.Author.Needs.{needs}
 use Rattle.reports.proofs.acting.freed.Tie as tie
 
 track-at-requires : tie.Need-track-at-requires

@@ -1,12 +1,11 @@
 -- `normalised`: the fault unlatched, the hold 0, then the hold set.
 -- Assumes nothing.
 use mathlib.Core.Path.{ap, _∙_}
-use Rattle.station.specs.Clock.{holdSet}
-use Rattle.station.specs.With.{withHold}
-use Rattle.station.specs.declared.Station.{Station}
-use Rattle.reports.specs.Reports.{acted}
-use borrow.Author.Needs.{needs}
 use Rattle.reports.proofs.acting.normalised.Statement.{statement}
+use Rattle.rules.specs.Reports.{acted, holdSet}
+use Rattle.rules.specs.Station.{withHold}
+use Rattle.rules.specs.declared.Station.{Station}
+use borrow.Author.Needs.{needs}
 use Rattle.reports.proofs.acting.normalised.Tie as tie
 
 with-fault-requires : tie.Need-with-fault-requires

@@ -1,12 +1,10 @@
 -- `occupied`: the named island changed, then the hold set.
 -- Assumes nothing.
 use mathlib.Core.Path.{ap, _∙_}
-use Rattle.station.specs.Clock.{holdSet}
-use Rattle.islands.specs.Mark.{occupiedNow}
-use Rattle.reports.specs.Reports.{acted}
 use Rattle.reports.proofs.Taking.{named}
-use borrow.Author.Needs.{needs}
 use Rattle.reports.proofs.acting.occupied.Statement.{statement}
+use Rattle.rules.specs.Reports.{acted, holdSet, occupiedNow}
+use borrow.Author.Needs.{needs}
 use Rattle.reports.proofs.acting.occupied.Tie as tie
 
 track-at-requires : tie.Need-track-at-requires

@@ -1,13 +1,11 @@
 -- `restored`: the named island changed, then the hold set.
 -- Assumes nothing.
 use mathlib.Core.Path.{ap, _∙_}
-use Rattle.station.specs.Clock.{holdSet}
-use Rattle.islands.specs.Mark.{detectorNow}
-use Rattle.reports.specs.Reports.{acted}
 use Rattle.reports.proofs.Taking.{named}
+use Rattle.reports.proofs.acting.restored.Statement.{statement}
+use Rattle.rules.specs.Reports.{acted, detectorNow, holdSet}
 use mathlib.Core.Bool.{false}
 use borrow.Author.Needs.{needs}
-use Rattle.reports.proofs.acting.restored.Statement.{statement}
 use Rattle.reports.proofs.acting.restored.Tie as tie
 
 track-at-requires : tie.Need-track-at-requires

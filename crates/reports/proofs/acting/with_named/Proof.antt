@@ -1,9 +1,9 @@
 -- `with_named`: the changed track put back.
 -- Assumes nothing.
 use mathlib.Core.Path.{ap, _∙_}
-use Rattle.station.specs.Station.{withTrack}
-use borrow.Author.Needs.{needs}
 use Rattle.reports.proofs.acting.with_named.Statement.{statement}
+use Rattle.rules.specs.Station.{withTrack}
+use borrow.Author.Needs.{needs}
 use Rattle.reports.proofs.acting.with_named.Tie as tie
 
 with-island-requires : tie.Need-with-island-requires

@@ -2,10 +2,10 @@
 -- Assumes nothing.
 use mathlib.Core.Path.{sym, ap}
 use Prim.Native.Nat.{ℕ}
-use Rattle.reports.specs.Answer.{already}
-use Rattle.reports.specs.Reports.{kindOf}
 use Rattle.reports.proofs.ByNumber.{never-already}
 use Rattle.reports.proofs.answering.already.Statement.{statement}
+use Rattle.rules.specs.Numbers.{already}
+use Rattle.rules.specs.Reports.{kindOf}
 use Rattle.reports.proofs.answering.already.Tie as tie
 
 returns : tie.Need-returns

@@ -1,9 +1,9 @@
 -- `answer`: the groups of tests in their order.
 -- Assumes nothing.
-use Rattle.answers.proofs.Chains.{group-passes, group-refuses}
-use Rattle.reports.specs.Answer.{answerOf}
-use borrow.Author.Needs.{needs}
+use Rattle.chains.proofs.Chains.{group-passes, group-refuses}
 use Rattle.reports.proofs.answering.answer.Statement.{statement}
+use Rattle.rules.specs.Numbers.{answerOf}
+use borrow.Author.Needs.{needs}
 use Rattle.reports.proofs.answering.answer.Tie as tie
 
 settings-answer-requires : tie.Need-settings-answer-requires

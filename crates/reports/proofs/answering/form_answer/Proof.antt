@@ -4,10 +4,10 @@ use mathlib.Core.Path.{sym, ap, _∙_}
 use mathlib.Core.Bool.{Bool, not, _||_}
 use lib.Dec.{eqb}
 use mathlib.Core.Path.{refl}
-use Rattle.answers.proofs.Chains.{passes, refuses}
-use Rattle.reports.specs.Answer.{formAnswer}
-use borrow.Author.Needs.{needs}
+use Rattle.chains.proofs.Chains.{passes, refuses}
 use Rattle.reports.proofs.answering.form_answer.Statement.{statement}
+use Rattle.rules.specs.Numbers.{formAnswer}
+use borrow.Author.Needs.{needs}
 use Rattle.reports.proofs.answering.form_answer.Tie as tie
 
 known-requires : tie.Need-known-requires

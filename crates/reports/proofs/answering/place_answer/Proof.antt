@@ -4,11 +4,11 @@ use mathlib.Core.Path.{sym, ap, _∙_}
 use mathlib.Core.Bool.{Bool, _&&_}
 use lib.Dec.{leb, ltb}
 use mathlib.Core.Path.{refl}
-use Rattle.answers.proofs.Chains.{passes, refuses}
-use Rattle.reports.specs.Answer.{placeAnswer}
+use Rattle.chains.proofs.Chains.{passes, refuses}
 use Rattle.reports.proofs.ByNumber.{names-a-head}
-use borrow.Author.Needs.{needs}
 use Rattle.reports.proofs.answering.place_answer.Statement.{statement}
+use Rattle.rules.specs.Numbers.{placeAnswer}
+use borrow.Author.Needs.{needs}
 use Rattle.reports.proofs.answering.place_answer.Tie as tie
 
 names-island-requires : tie.Need-names-island-requires

@@ -3,14 +3,14 @@
 use mathlib.Core.Path.{sym, ap, _∙_}
 use mathlib.Core.Path.{refl}
 use Prim.Native.Nat.{ℕ}
-use Rattle.islands.specs.Islands.{islandAt}
-use Rattle.islands.specs.declared.Track.{Track}
-use Rattle.answers.proofs.Chains.{passes, refuses}
-use Rattle.reports.specs.Answer.{already, blocked, stateAnswer}
-use Rattle.reports.specs.Reports.{kindOf, namedIsland}
+use Rattle.chains.proofs.Chains.{passes, refuses}
 use Rattle.reports.proofs.ByNumber.{not-blocked}
-use borrow.Author.Needs.{needs}
 use Rattle.reports.proofs.answering.state_answer.Statement.{statement}
+use Rattle.rules.specs.Numbers.{already, blocked, stateAnswer}
+use Rattle.rules.specs.Reports.{kindOf, namedIsland}
+use Rattle.rules.specs.Station.{islandAt}
+use Rattle.rules.specs.declared.Track.{Track}
+use borrow.Author.Needs.{needs}
 use Rattle.reports.proofs.answering.state_answer.Tie as tie
 
 is-obstructed-requires : tie.Need-is-obstructed-requires

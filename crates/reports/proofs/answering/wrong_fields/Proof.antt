@@ -4,11 +4,11 @@ use mathlib.Core.Path.{sym, ap, _∙_}
 use mathlib.Core.Bool.{Bool, not, _&&_}
 use lib.Dec.{eqb}
 use Prim.Native.Nat.{ℕ}
-use Rattle.reports.specs.Answer.{wrongFields}
-use Rattle.reports.specs.Reports.{kindOf}
 use Rattle.reports.proofs.ByNumber.{value-alone}
-use borrow.Author.Needs.{needs}
 use Rattle.reports.proofs.answering.wrong_fields.Statement.{statement}
+use Rattle.rules.specs.Numbers.{wrongFields}
+use Rattle.rules.specs.Reports.{kindOf}
+use borrow.Author.Needs.{needs}
 use Rattle.reports.proofs.answering.wrong_fields.Tie as tie
 
 names-island-requires : tie.Need-names-island-requires

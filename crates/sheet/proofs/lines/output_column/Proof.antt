@@ -6,7 +6,7 @@ use Prim.Native.Nat.{_%_}
 use native.Mathlib.Nat.{div-one}
 use lib.Dec.{eqb}
 use borrow.Author.Needs.{needs}
-use Rattle.sheet.specs.Text.{zeroOrOne}
+use Rattle.rules.specs.Printer.{zeroOrOne}
 use Rattle.sheet.proofs.lines.output_column.Statement.{statement}
 use Rattle.sheet.proofs.lines.output_column.Tie as tie
 

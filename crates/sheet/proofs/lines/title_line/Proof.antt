@@ -1,7 +1,7 @@
 -- `title_line`: its four texts, one after the other, are the title.
 -- Assumes nothing.
 use borrow.Author.Needs.{needs}
-use Rattle.sheet.specs.Lines.{title}
+use Rattle.rules.specs.Printer.{title}
 use Rattle.sheet.proofs.lines.title_line.Statement.{statement}
 use Rattle.sheet.proofs.lines.title_line.Tie as tie
 

@@ -4,8 +4,7 @@ use mathlib.Core.Path.{_∙_, ap, sym}
 use mathlib.Core.List.{[], _∷_, _++_}
 use borrow.Author.Needs.{needs}
 use Rattle.islands.proofs.Listed.{listed}
-use Rattle.sheet.specs.Lines.{zoneText}
-use Rattle.sheet.specs.Text.{space}
+use Rattle.rules.specs.Printer.{space, zoneText}
 use Rattle.sheet.proofs.lines.zone_column.Statement.{statement}
 use Rattle.sheet.proofs.lines.zone_column.Tie as tie
 

@@ -3,7 +3,7 @@
 use native.Mathlib.Omega.{arith}
 use lib.ListN.{length-append}
 use borrow.Author.Needs.{needs}
-use Rattle.sheet.specs.Text.{lineFeed}
+use Rattle.rules.specs.Printer.{lineFeed}
 use Rattle.sheet.proofs.Placing.{fitted, further, start, told, unfitted}
 use Rattle.sheet.proofs.text.line.Statement.{statement}
 use Rattle.sheet.proofs.text.line.Tie as tie

@@ -5,12 +5,10 @@ use Prim.Native.Nat.{_≤_, _<_}
 use mathlib.Core.List.{[]}
 use lib.ListN.{length, List·getD-eq-default}
 use native.Mathlib.Omega.{arith}
-use Rattle.islands.proofs.Listed.{counted}
-use Rattle.islands.proofs.Listed.{getD-same}
-use Rattle.islands.specs.Islands.{freeTrack}
-use Rattle.station.specs.Station.{trackAt}
-use borrow.Author.Needs.{needs}
+use Rattle.islands.proofs.Listed.{counted, getD-same}
+use Rattle.rules.specs.Station.{freeTrack, trackAt}
 use Rattle.station.proofs.changing.track_at.Statement.{statement}
+use borrow.Author.Needs.{needs}
 use Rattle.station.proofs.changing.track_at.Tie as tie
 
 mul-result : tie.Need-mul-result

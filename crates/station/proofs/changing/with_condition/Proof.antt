@@ -5,10 +5,9 @@ use lib.ListN.{length}
 use lib.Seq.{set-out}
 use native.Mathlib.Omega.{arith}
 use Rattle.islands.proofs.Listed.{counted}
-use Rattle.station.specs.Station.{withCondition}
-use Rattle.station.specs.With.{withConditions}
-use borrow.Author.Needs.{needs}
+use Rattle.rules.specs.Station.{withCondition, withConditions}
 use Rattle.station.proofs.changing.with_condition.Statement.{statement}
+use borrow.Author.Needs.{needs}
 use Rattle.station.proofs.changing.with_condition.Tie as tie
 
 mul-next : tie.Need-mul-next

@@ -5,10 +5,9 @@ use lib.ListN.{length}
 use lib.Seq.{set-out}
 use native.Mathlib.Omega.{arith}
 use Rattle.islands.proofs.Listed.{counted}
-use Rattle.station.specs.Station.{withTrack}
-use Rattle.station.specs.With.{withTracks}
-use borrow.Author.Needs.{needs}
+use Rattle.rules.specs.Station.{withTrack, withTracks}
 use Rattle.station.proofs.changing.with_track.Statement.{statement}
+use borrow.Author.Needs.{needs}
 use Rattle.station.proofs.changing.with_track.Tie as tie
 
 mul-track : tie.Need-mul-track

@@ -1,8 +1,8 @@
 -- `fresh_station`: four free tracks.
 -- Assumes nothing.
-use Rattle.station.specs.With.{freshStation}
-use borrow.Author.Needs.{needs}
+use Rattle.rules.specs.Station.{freshStation}
 use Rattle.station.proofs.making.fresh_station.Statement.{statement}
+use borrow.Author.Needs.{needs}
 use Rattle.station.proofs.making.fresh_station.Tie as tie
 
 free-track-requires : tie.Need-free-track-requires

@@ -1,10 +1,10 @@
 -- `settings_answer`: the one test that refuses.
 -- Assumes nothing.
 use mathlib.Core.Path.{sym, _∙_}
-use Rattle.station.specs.Station.{settingsAnswer}
-use Rattle.answers.specs.FirstRefusal.{_if_then_}
-use borrow.Author.Needs.{needs}
+use Rattle.rules.specs.Station.{settingsAnswer}
+use Rattle.rules.specs.Words.{_if_then_}
 use Rattle.station.proofs.making.settings_answer.Statement.{statement}
+use borrow.Author.Needs.{needs}
 use Rattle.station.proofs.making.settings_answer.Tie as tie
 
 within-limits-requires : tie.Need-within-limits-requires

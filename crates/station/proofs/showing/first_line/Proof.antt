@@ -1,8 +1,8 @@
 -- `first_line`: out of service is the first line of the rule.
 -- Assumes nothing.
-use Rattle.answers.proofs.Chains.{passes, refuses}
-use borrow.Author.Needs.{needs}
+use Rattle.chains.proofs.Chains.{passes, refuses}
 use Rattle.station.proofs.showing.first_line.Statement.{statement}
+use borrow.Author.Needs.{needs}
 use Rattle.station.proofs.showing.first_line.Tie as tie
 
 returns : tie.Need-returns

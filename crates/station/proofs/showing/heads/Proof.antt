@@ -6,10 +6,9 @@ use mathlib.Core.List.{[], _∷_, map}
 use lib.ListN.{getD, length}
 use borrow.Author.Needs.{needs}
 use Rattle.islands.proofs.Listed.{listed, tabulate}
-use Rattle.signal.specs.Heads.{headOutputs}
-use Rattle.signal.specs.Outputs.{outputsOf}
-use Rattle.station.specs.Aspect.{aspectOf}
-use Rattle.station.specs.Shown.{headsOf}
+use Rattle.rules.specs.Aspect.{aspectOf}
+use Rattle.rules.specs.Heads.{headOutputs, headsOf}
+use Rattle.rules.specs.Outputs.{outputsOf}
 use Rattle.station.proofs.showing.heads.Statement.{statement}
 use Rattle.station.proofs.showing.heads.Tie as tie
 

@@ -1,6 +1,6 @@
 -- `lines`: each return is the chain with the tests before it false and its own true.
 -- Assumes nothing.
-use Rattle.answers.specs.FirstRefusal.{_if_then_}
+use Rattle.rules.specs.Words.{_if_then_}
 use Rattle.station.proofs.showing.lines.Statement.{statement}
 use Rattle.station.proofs.showing.lines.Tie as tie
 

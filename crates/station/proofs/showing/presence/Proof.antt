@@ -3,7 +3,7 @@
 use mathlib.Core.Path.{sym, _∙_}
 use mathlib.Core.List.{[], _∷_}
 use borrow.Author.Needs.{needs}
-use Rattle.station.specs.Shown.{presenceOf}
+use Rattle.rules.specs.Aspect.{presenceOf}
 use Rattle.station.proofs.showing.presence.Statement.{statement}
 use Rattle.station.proofs.showing.presence.Tie as tie
 

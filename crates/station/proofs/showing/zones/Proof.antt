@@ -1,11 +1,11 @@
 -- `zones`: within limits, a digit for each zone.
 -- Assumes nothing.
+use Rattle.rules.specs.Printer.{zonesOf}
 use Rattle.station.proofs.ShownLaws.{zone-digit}
+use Rattle.station.proofs.showing.zones.Statement.{statement}
 use mathlib.Core.List.{[], _∷_}
 use mathlib.Core.Path.{sym, _∙_}
-use Rattle.station.specs.Shown.{zonesOf}
 use borrow.Author.Needs.{needs}
-use Rattle.station.proofs.showing.zones.Statement.{statement}
 use Rattle.station.proofs.showing.zones.Tie as tie
 
 within-limits-requires : tie.Need-within-limits-requires

@@ -1,7 +1,12 @@
 -- `is_obstructed`: after j tracks, whether one of the first j has an island occupied, or a detector failed.
 -- Assumes nothing.
 use mathlib.Core.List.{List}
-use Rattle.islands.specs.declared.Track.{Track}
+use Rattle.islands.proofs.Below.{any-more, take-least}
+use Rattle.islands.proofs.Listed.{counted}
+use Rattle.rules.specs.Station.{obstructed, someFailed, someOccupied}
+use Rattle.rules.specs.Words.{any}
+use Rattle.rules.specs.declared.Track.{Track}
+use Rattle.station.proofs.surveying.is_obstructed.Statement.{statement}
 use Prim.Native.Nat.{_≤_, _-_}
 use mathlib.Core.Path.{_≡_, refl, sym, ap, ap₂, _∙_}
 use mathlib.Core.Bool.{_||_}
@@ -9,12 +14,6 @@ use mathlib.Core.List.{[]}
 use lib.ListN.{length, take}
 use borrow.Author.Needs.{needs}
 use native.Mathlib.Omega.{arith}
-use Rattle.islands.proofs.Below.{any-more, take-least}
-use Rattle.islands.proofs.Listed.{counted}
-use Rattle.islands.specs.Islands.{someFailed, someOccupied}
-use Rattle.islands.specs.Lists.{any}
-use Rattle.station.specs.Station.{obstructed}
-use Rattle.station.proofs.surveying.is_obstructed.Statement.{statement}
 use Rattle.station.proofs.surveying.is_obstructed.Tie as tie
 
 abbrev Inv-loop : tie.InvT-loop

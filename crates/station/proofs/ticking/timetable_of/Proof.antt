@@ -7,13 +7,13 @@ use mathlib.Core.List.{List, []}
 use lib.ListN.{length, take}
 use borrow.Author.Needs.{needs}
 use native.Mathlib.Omega.{arith}
-use Rattle.islands.proofs.Listed.{counted}
 use Rattle.islands.proofs.Below.{take-least}
+use Rattle.islands.proofs.Listed.{counted}
 use Rattle.islands.proofs.Turned.{timers}
-use Rattle.islands.specs.declared.Track.{Track}
-use Rattle.station.specs.Timetable.{Timed}
-use Rattle.station.proofs.Timing.{timed-none, timed-next, timed-skip}
+use Rattle.rules.specs.declared.Track.{Track}
+use Rattle.station.proofs.Timing.{timed-next, timed-none, timed-skip}
 use Rattle.station.proofs.ticking.timetable_of.Statement.{statement}
+use Rattle.station.specs.Timetable.{Timed}
 use Rattle.station.proofs.ticking.timetable_of.Tie as tie
 
 abbrev Inv-loop : tie.InvT-loop

@@ -1,3 +1,0 @@
-pub mod FirstRefusal
-pub mod Limits
-pub mod Numbers

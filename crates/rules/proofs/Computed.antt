@@ -1,0 +1,64 @@
+-- The definitions that the rows compute with. Whoever says `unfolding computed` opens them all.
+use Rattle.rules.specs.Aspect.{aspectOf, freshAdvance, freshNear, greatestRisk, presenceOf, present, someFresh, someHeld}
+use Rattle.rules.specs.Heads.{headOutputs, headsOf}
+use Rattle.rules.specs.Layout.{entryAt, entryOf, header, reportIn, settingsIn}
+use Rattle.rules.specs.Numbers.{answerOf, formAnswer, placeAnswer, stateAnswer, stationAfter, taken}
+use Rattle.rules.specs.Outputs.{outputsOf}
+use Rattle.rules.specs.Printer.{decimal, lengthWritten, printed, refusalLine, rowLine, rowLines, sheetOf, title, written, zonesOf}
+use Rattle.rules.specs.Register.{after, appendAnswer, appended, appendedBytes, entryAnswer, firstWrong, handedBack, handedBackAt, headAnswer, lengthAnswer, readAnswer, readOf, readingOf, registerAnswer, startAnswer, started, stepAnswer, stepOf}
+use Rattle.rules.specs.Reports.{acted, allOlder, detectorNow, faultLatched, freeNow, holdLowered, holdSet, kindOf, late, leavingMark, occupiedNow, older, olderTrack, tick, ticks, withIsland}
+use Rattle.rules.specs.Siting.{advanceSited, warningSited}
+use Rattle.rules.specs.Station.{freshStation, made, obstructed, settingsAnswer, someFailed, someOccupied, trackAt, withCondition, withTrack, withinLimits}
+use Rattle.rules.specs.Words.{_if_then_, _▷_}
+
+ofWords : Unit {0}
+unfolding _if_then_ _▷_
+ofWords = tt
+
+ofSignals : Unit {0}
+unfolding headOutputs outputsOf
+ofSignals = tt
+
+ofSiting : Unit {0}
+unfolding advanceSited warningSited
+ofSiting = tt
+
+ofMarks : Unit {0}
+unfolding detectorNow freeNow leavingMark occupiedNow withIsland
+ofMarks = tt
+
+ofTracks : Unit {0}
+unfolding late older olderTrack freshAdvance freshNear present someFresh someHeld someFailed someOccupied withinLimits
+ofTracks = tt
+
+ofStations : Unit {0}
+unfolding aspectOf greatestRisk headsOf presenceOf zonesOf freshStation made obstructed settingsAnswer trackAt withCondition withTrack
+ofStations = tt
+
+ofTheClock : Unit {0}
+unfolding allOlder faultLatched holdLowered holdSet tick ticks
+ofTheClock = tt
+
+ofReports : Unit {0}
+unfolding answerOf formAnswer placeAnswer stateAnswer acted kindOf stationAfter taken
+ofReports = tt
+
+ofTheLayout : Unit {0}
+unfolding entryAt entryOf header reportIn settingsIn
+ofTheLayout = tt
+
+ofRegisters : Unit {0}
+unfolding appendAnswer headAnswer lengthAnswer registerAnswer startAnswer appended appendedBytes started after firstWrong
+ofRegisters = tt
+
+ofReadings : Unit {0}
+unfolding entryAnswer handedBack handedBackAt readAnswer readOf readingOf stepAnswer stepOf
+ofReadings = tt
+
+ofSheets : Unit {0}
+unfolding refusalLine rowLine title printed rowLines sheetOf decimal lengthWritten written
+ofSheets = tt
+
+unfoldable pub computed : Unit {0}
+unfolding ofWords ofSignals ofSiting ofMarks ofTracks ofStations ofTheClock ofReports ofTheLayout ofRegisters ofReadings ofSheets
+computed = tt

@@ -1,0 +1,9 @@
+pub mod BrowseRows
+pub mod Computed
+pub mod HouseRows
+pub mod Refusals
+pub mod RegisterRefusals
+pub mod RegisterRows
+pub mod Rows
+pub mod SheetRows
+pub mod StationRows

@@ -1,0 +1,39 @@
+-- Document 01, "Siting". Seconds and metres are kept apart.
+use Prim.Native.Nat.{ℕ, _+_, _-_, _*_, _/_}
+use mathlib.Core.Bool.{Bool, cond, not, _&&_}
+use lib.Dec.{eqb}
+use Rattle.rules.specs.Answers.{done, outsideLimits}
+use Rattle.rules.specs.Words.{within, _if_then_}
+use Rattle.rules.specs.declared.Seconds.{Seconds}
+use Rattle.rules.specs.declared.Sited.{Sited}
+
+-- Speed v is 1 to 350 km/h, message time m 0 to 60 s, tracks n 1 to 4 (house limits).
+abbrev pub speedGood : ℕ → Bool
+speedGood v = within 1 350 v
+
+abbrev pub messageGood : ℕ → Bool
+messageGood m = within 0 60 m
+
+abbrev pub tracksGood : ℕ → Bool
+tracksGood n = within 1 4 n
+
+-- a quotient, rounded up once
+abbrev pub roundedUp : ℕ → ℕ → ℕ
+roundedUp n d = (n + (d - 1)) / d
+
+-- The advance distance is 5·v·(30+m)/18 metres and the warning distance 5·v·7·n/18 metres, each rounded up once.
+abbrev pub advanceMetres : ℕ → ℕ → ℕ
+advanceMetres v m = roundedUp (5 * v * (30 + m)) 18
+
+abbrev pub warningMetres : ℕ → ℕ → ℕ
+warningMetres v n = roundedUp (5 * v * 7 * n) 18
+
+-- Refused siting returns distance 0.
+abbrev pub sited : ℕ → ℕ → Sited
+sited answer metres = record { answer = answer; distance = record { 0 = cond (eqb answer done) metres 0 } }
+
+unfoldable pub advanceSited : ℕ → Seconds → Sited
+advanceSited v m = sited (outsideLimits if not (speedGood v && messageGood (m .0)) then done) (advanceMetres v (m .0))
+
+unfoldable pub warningSited : ℕ → ℕ → Sited
+warningSited v n = sited (outsideLimits if not (speedGood v && tracksGood n) then done) (warningMetres v n)

@@ -1,0 +1,11 @@
+-- Rows that try the definitions of the folder above, a sentence of document 01 or of ours over each. proofs/ computes them.
+pub mod Row
+pub mod Machine
+pub mod Table
+pub mod HouseRows
+pub mod StationRows
+pub mod Refusals
+pub mod RegisterRows
+pub mod RegisterRefusals
+pub mod BrowseRows
+pub mod SheetRows
