@@ -12,9 +12,9 @@ use lib.Seq.{getD-set-other}
 use Rattle.demands.proofs.ApartLaws.{aspectIn}
 use Rattle.islands.proofs.Listed.{getD-same}
 use Rattle.reports.proofs.Accepted.{after-any}
+use Rattle.rules.specs.Answers.{answerOf, stationAfter}
 use Rattle.rules.specs.Aspect.{aspectOf, greatestRisk}
 use Rattle.rules.specs.Heads.{communicationFailed, failedSounders, headOutputs, headsOf, powerFailed}
-use Rattle.rules.specs.Numbers.{answerOf, stationAfter}
 use Rattle.rules.specs.Outputs.{outputsOf}
 use Rattle.rules.specs.Reports.{Kind, acted, allOlder, clock, detectorFailed, detectorRestored, faultLatched, headCondition, holdLowered, holdSet, islandFree, islandOccupied, kindOf, noKind, normalise, tick, ticks}
 use Rattle.rules.specs.Station.{live, settingsAnswer, withCondition, withTrack, withinLimits}

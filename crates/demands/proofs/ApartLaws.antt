@@ -6,8 +6,8 @@ use mathlib.Core.Path.{_≡_}
 use mathlib.Core.Bool.{Bool, not}
 use mathlib.Core.List.{List}
 use Rattle.reports.proofs.Taking.{after-refused}
+use Rattle.rules.specs.Answers.{answerOf, stationAfter}
 use Rattle.rules.specs.Aspect.{freshAdvance, freshNear, someHeld}
-use Rattle.rules.specs.Numbers.{answerOf, stationAfter}
 use Rattle.rules.specs.Station.{withinLimits}
 use Rattle.rules.specs.Words.{any, _if_then_}
 use Rattle.rules.specs.declared.Report.{Report}

@@ -16,9 +16,9 @@ use Rattle.demands.specs.Agree.{Agree}
 use Rattle.islands.proofs.Below.{changed-drop, changed-take}
 use Rattle.reports.proofs.Accepted.{Below, accepted-below, after-any, place-below}
 use Rattle.reports.proofs.Taking.{after-accepted}
+use Rattle.rules.specs.Answers.{already, answerOf, blocked, namesHead, namesIsland, placeAnswer, stateAnswer, stationAfter}
 use Rattle.rules.specs.Aspect.{aspectOf, greatestRisk, presenceOf, present, someFresh}
 use Rattle.rules.specs.Heads.{headOutputs, headsOf}
-use Rattle.rules.specs.Numbers.{already, answerOf, blocked, namesHead, namesIsland, placeAnswer, stateAnswer, stationAfter}
 use Rattle.rules.specs.Outputs.{outputsOf}
 use Rattle.rules.specs.Printer.{zonesOf}
 use Rattle.rules.specs.Reports.{Kind, acted, allOlder, clock, detectorFailed, detectorNow, detectorRestored, faultLatched, freeNow, headCondition, holdLowered, holdSet, islandFree, islandOccupied, kindOf, late, namedIsland, namedTrack, noKind, normalise, occupiedNow, olderTrack, tick, ticks, withIsland, withNamed}

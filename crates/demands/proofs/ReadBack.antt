@@ -15,9 +15,9 @@ use Rattle.demands.proofs.RegisterBytes.{begun-head, begun-settings, en
 use Rattle.demands.proofs.RegisterLaws.{append-applies, append-elsewhere, append-enters, start-elsewhere, start-header}
 use Rattle.demands.specs.ReadBack.{Appends, Filling, ReadsBack, Room, answer, aspect, filled, ours, register, station, wholly}
 use Rattle.register.proofs.FirstWrong.{below-next, right}
+use Rattle.rules.specs.Answers.{answerOf, stationAfter}
 use Rattle.rules.specs.Aspect.{aspectOf}
 use Rattle.rules.specs.Layout.{entries, entryAt, entryOf, entryStart, header, reportIn, settingsIn}
-use Rattle.rules.specs.Numbers.{answerOf, stationAfter}
 use Rattle.rules.specs.Register.{after, appendAnswer, asReplayed, entryAnswer, firstWrong, handedBack, headAnswer, lengthAnswer, newEntry, readAnswer, readOf, readingOf, registerAnswer, sameSettings, startAnswer, stepAnswer, stepOf, unfit}
 use Rattle.rules.specs.Station.{freshStation, leastSettings, made, settingsAnswer, withinLimits}
 use Rattle.rules.specs.Words.{_if_then_, _▷_}

@@ -15,9 +15,9 @@ use Rattle.chains.proofs.Chains.{both-done, group-passes, group-refuses, passed
 use Rattle.demands.proofs.RegisterBytes.{put-after, put-before, put-length, put-there, same-head, same-settings}
 use Rattle.register.proofs.Entering.{room}
 use Rattle.reports.proofs.Taking.{after-refused}
+use Rattle.rules.specs.Answers.{answerOf, stationAfter}
 use Rattle.rules.specs.Aspect.{aspectOf}
 use Rattle.rules.specs.Layout.{entryAt, entryOf, entryStart, header}
-use Rattle.rules.specs.Numbers.{answerOf, stationAfter}
 use Rattle.rules.specs.Register.{appendAnswer, appended, appendedBytes, newEntry, put, startAnswer, started, unfit}
 use Rattle.rules.specs.Station.{settingsAnswer}
 use Rattle.rules.specs.Words.{_if_then_, _▷_}

@@ -14,8 +14,8 @@ use Rattle.chains.proofs.Chains.{group-refuses}
 use Rattle.demands.proofs.RegisterBytes.{same-entry, same-first, same-head, same-settings}
 use Rattle.demands.proofs.Stated.{stated-reading, stated-stepping}
 use Rattle.register.proofs.FirstWrong.{Names, names-first}
+use Rattle.rules.specs.Answers.{stationAfter}
 use Rattle.rules.specs.Layout.{entries, entryStart, reportIn}
-use Rattle.rules.specs.Numbers.{stationAfter}
 use Rattle.rules.specs.Register.{after, asReplayed, entryAnswer, firstWrong, lengthAnswer, readAnswer, readOf, readingOf, registerAnswer, stepAnswer, stepOf}
 use Rattle.rules.specs.Station.{freshStation, leastSettings, made, settingsAnswer}
 use Rattle.rules.specs.Words.{_if_then_, _▷_}

@@ -12,9 +12,9 @@ use Rattle.chains.proofs.Chains.{where-done}
 use Rattle.demands.proofs.ReadBack.{filled-entries, filled-entry, filled-length, read-back, replayed}
 use Rattle.demands.proofs.RegisterBytes.{entry-report}
 use Rattle.demands.specs.ReadBack.{Filling, Room, answer, aspect, lines, register}
+use Rattle.rules.specs.Answers.{answerOf}
 use Rattle.rules.specs.Aspect.{aspectOf}
 use Rattle.rules.specs.Layout.{reportIn}
-use Rattle.rules.specs.Numbers.{answerOf}
 use Rattle.rules.specs.Outputs.{outputsOf}
 use Rattle.rules.specs.Printer.{printed, refusalLine, rowLine, rowLines, sheetOf, title, zonesOf}
 use Rattle.rules.specs.Register.{readOf}

@@ -15,8 +15,8 @@ use Rattle.chains.proofs.Chains.{both, either, group-so}
 use Rattle.chains.proofs.Given.{Tests, each, every, first, given, none, testOf, _before_, _on_else_}
 use Rattle.demands.specs.Stated.{OfAppending, OfHandingBack, OfLimits, OfReading, OfRegister, OfReport, OfStarting, OfStepping, oneOf}
 use Rattle.reports.proofs.ByNumber.{is-known, not-blocked}
+use Rattle.rules.specs.Answers.{already, answerOf, blocked, formAnswer, known, namesHead, namesIsland, placeAnswer, stateAnswer, wrongFields}
 use Rattle.rules.specs.Layout.{entries, hasMark, settingsIn, versionIn}
-use Rattle.rules.specs.Numbers.{already, answerOf, blocked, formAnswer, known, namesHead, namesIsland, placeAnswer, stateAnswer, wrongFields}
 use Rattle.rules.specs.Register.{appendAnswer, appended, entryAnswer, firstWrong, full, headAnswer, lengthAnswer, readAnswer, readOf, readingOf, registerAnswer, startAnswer, stepAnswer, stepOf, unfit}
 use Rattle.rules.specs.Reports.{kindOf, namedIsland}
 use Rattle.rules.specs.Siting.{advanceSited, messageGood, speedGood, tracksGood, warningSited}

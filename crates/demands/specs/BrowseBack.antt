@@ -8,8 +8,8 @@ use denote.Ref.{RefT}
 use Rattle.browser.specs.Browsing.{bytesOf, movedTo}
 use Rattle.browser.specs.declared.Browser.{Browser}
 use Rattle.demands.specs.ReadBack.{Filling, station, wholly}
-use Rattle.rules.specs.Answers.{noSuchRow}
 use Rattle.rules.specs.Browser.{Move, leadsTo}
+use Rattle.rules.specs.Numbers.{noSuchRow}
 use Rattle.rules.specs.Register.{stepOf}
 use Rattle.rules.specs.declared.Reading.{Reading}
 

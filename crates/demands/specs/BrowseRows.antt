@@ -25,11 +25,11 @@ place w = w .register .ptr .0 ∷ w .register .ptr .1 ∷ []
 
 abbrev pub browseRows : List Row
 browseRows =
-    -- 8: it starts at row 0, and holds the lent register where it lies, whatever moves come after
+    -- B8: it starts at row 0, and holds the lent register where it lies, whatever moves come after
     rows 8 (on sound .row ∷ place (on sound)) (0 ∷ 3 ∷ 7 ∷ [])
     ++ rows 8 (place (afterMoves (on sound) (to 4 ∷ back ∷ to 9 ∷ forward ∷ []))) (3 ∷ 7 ∷ [])
     -- moves come one after the other
     ++ rows 8 (afterMoves (on sound) (to 4 ∷ back ∷ []) .row ∷ []) (3 ∷ [])
-    -- 9: a move goes by the register that is held and by the row that the browser stands on, which a refused one leaves
+    -- B9: a move goes by the register that is held and by the row that the browser stands on, which a refused one leaves
     ++ rows 9 (walk (on sound) (to 3 ∷ forward ∷ back ∷ back ∷ to 6 ∷ back ∷ []))
     (together ((0 ∷ 3 ∷ 1 ∷ 3 ∷ []) ∷ (0 ∷ 4 ∷ 2 ∷ 4 ∷ []) ∷ (0 ∷ 3 ∷ 1 ∷ 3 ∷ []) ∷ (0 ∷ 2 ∷ 1 ∷ 2 ∷ []) ∷ (14 ∷ 0 ∷ 5 ∷ 2 ∷ []) ∷ (0 ∷ 1 ∷ 0 ∷ 1 ∷ []) ∷ []))

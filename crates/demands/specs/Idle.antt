@@ -1,8 +1,8 @@
 -- Document 01, "How firm each statement is": four of the five idle versions that have to be shut out, each a machine. The fifth, with a made-up number
 -- of entries read, is in specs/ReadBack.
 use mathlib.Core.Bool.{Bool, true, false, cond}
+use Rattle.rules.specs.Answers.{answerOf, stationAfter}
 use Rattle.rules.specs.Aspect.{aspectOf}
-use Rattle.rules.specs.Numbers.{answerOf, stationAfter}
 use Rattle.rules.specs.Station.{made}
 use Rattle.rules.specs.declared.Station.{Station}
 use Rattle.rules.specs.rows.Machine.{Machine}

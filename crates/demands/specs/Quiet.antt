@@ -5,9 +5,9 @@ use mathlib.Core.Path.{_≡_}
 use mathlib.Core.Bool.{Bool, true, cond, not, _&&_, _||_}
 use mathlib.Core.List.{List, [], _∷_, _++_}
 use lib.Dec.{eqb}
-use Rattle.rules.specs.Answers.{done}
+use Rattle.rules.specs.Answers.{answerOf, stationAfter}
 use Rattle.rules.specs.Aspect.{aspectOf}
-use Rattle.rules.specs.Numbers.{answerOf, stationAfter}
+use Rattle.rules.specs.Numbers.{done}
 use Rattle.rules.specs.Station.{anyIsland, freshStation, isWarning, live, someOccupied, withinLimits}
 use Rattle.rules.specs.Words.{any, _if_then_}
 use Rattle.rules.specs.declared.Report.{Report}

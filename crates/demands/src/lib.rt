@@ -1,1 +1,1 @@
-// No functions: the rows of document 01 and the theorems over all crates. Their statements are in specs/ and proofs/.
+// No functions: the theorems over all crates, and the rows for their words. Their statements are in specs/ and proofs/.

@@ -1,8 +1,8 @@
 // A station, the reports that it takes, and what it shows.
 ghost use mathlib.Core.Path.{_≡_};
+ghost use Rattle.rules.specs.Answers.{answerOf, taken};
 ghost use Rattle.rules.specs.Aspect.{aspectOf, presenceOf};
 ghost use Rattle.rules.specs.Heads.{headOutputs, headsOf};
-ghost use Rattle.rules.specs.Numbers.{answerOf, taken};
 ghost use Rattle.rules.specs.Outputs.{outputsOf};
 ghost use Rattle.rules.specs.Printer.{zonesOf};
 ghost use Rattle.rules.specs.Station.{made};

@@ -1,4 +1,4 @@
--- What document 01, "From islands to aspect", asks of one track, side by side.
+-- What document 01, "From islands to aspect", asks of one track, side by side. (Not for belief: each is a definition of `rules`.)
 use Prim.Native.Nat.{ℕ}
 use mathlib.Core.Bool.{Bool, not, _&&_, _||_}
 use lib.Dec.{leb}

@@ -9,7 +9,7 @@ use borrow.Author.Tests.{leb-false, ltb-false}
 use lib.Dec.{leb, ltb}
 use Rattle.chains.proofs.Chains.{both-done, passed}
 use Rattle.reports.proofs.Taking.{after-accepted, after-refused}
-use Rattle.rules.specs.Numbers.{already, answerOf, formAnswer, namesIsland, placeAnswer, stateAnswer, stationAfter}
+use Rattle.rules.specs.Answers.{already, answerOf, formAnswer, namesIsland, placeAnswer, stateAnswer, stationAfter}
 use Rattle.rules.specs.Reports.{Kind, acted, kindOf, namedIsland}
 use Rattle.rules.specs.Station.{settingsAnswer}
 use Rattle.rules.specs.declared.Report.{Report}

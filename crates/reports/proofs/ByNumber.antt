@@ -6,7 +6,7 @@ use mathlib.Core.Path.{_≡_, refl, ap₂}
 use mathlib.Core.Bool.{false, not, _&&_, _||_}
 use borrow.Author.Tests.{le-leb, lt-leb, ne-eqb}
 use lib.Dec.{eqb, leb}
-use Rattle.rules.specs.Numbers.{already, blocked, known, namesHead, namesIsland, wrongFields}
+use Rattle.rules.specs.Answers.{already, blocked, known, namesHead, namesIsland, wrongFields}
 use Rattle.rules.specs.Reports.{kindOf, noKind}
 use Rattle.rules.specs.declared.Island.{Island}
 use Rattle.rules.specs.declared.Report.{Report}

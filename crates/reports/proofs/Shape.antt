@@ -9,7 +9,7 @@ use lib.ListN.{length, length-map, length-set}
 use lib.Seq.{length-front}
 use Rattle.reports.proofs.Accepted.{after-any}
 use Rattle.reports.proofs.FiveIslands.{Five, five-named, five-older}
-use Rattle.rules.specs.Numbers.{stationAfter}
+use Rattle.rules.specs.Answers.{stationAfter}
 use Rattle.rules.specs.Reports.{Kind, acted, allOlder, clock, detectorFailed, detectorRestored, faultLatched, headCondition, holdLowered, holdSet, islandFree, islandOccupied, kindOf, noKind, normalise, olderTrack, tick, ticks, withNamed}
 use Rattle.rules.specs.Station.{freshStation, leastSettings, live, made, settingsAnswer, withCondition, withTrack, withinLimits}
 use Rattle.rules.specs.Words.{_if_then_}

@@ -6,7 +6,7 @@ use mathlib.Core.Path.{_≡_, ap, ap₂, _∙_}
 use mathlib.Core.Bool.{Bool, cond}
 use borrow.Author.Tests.{eq-eqb, ne-eqb}
 use Rattle.chains.proofs.Chains.{group-below, test-below}
-use Rattle.rules.specs.Numbers.{answerOf, formAnswer, placeAnswer, stateAnswer, stationAfter}
+use Rattle.rules.specs.Answers.{answerOf, formAnswer, placeAnswer, stateAnswer, stationAfter}
 use Rattle.rules.specs.Reports.{acted, kindOf, namedTrack, withIsland, withNamed}
 use Rattle.rules.specs.Station.{settingsAnswer, trackAt, withTrack}
 use Rattle.rules.specs.declared.Island.{Island}

@@ -1,6 +1,6 @@
 // Document 01, "The numbers it answers": the tests of a report, in their order.
 ghost use mathlib.Core.Path.{_≡_};
-ghost use Rattle.rules.specs.Numbers.{already as Numbers·already, answerOf, formAnswer, known as Numbers·known, namesIsland, placeAnswer, stateAnswer, wrongFields};
+ghost use Rattle.rules.specs.Answers.{already as Answers·already, answerOf, formAnswer, known as Answers·known, namesIsland, placeAnswer, stateAnswer, wrongFields};
 ghost use Rattle.rules.specs.Reports.{kindOf};
 use rules::ALREADY_SO;
 use rules::BAD_FIELD;
@@ -53,7 +53,7 @@ fn form_answer(report: Report) -> u8
 }
 
 fn known(kind: u8) -> bool
-    ensures { λ r. ⌜ r ≡ Numbers·known (kindOf kind) ⌝ }
+    ensures { λ r. ⌜ r ≡ Answers·known (kindOf kind) ⌝ }
 {
     (1 <= kind) & (kind <= 7)
 }
@@ -109,7 +109,7 @@ fn state_answer(station: Station, report: Report) -> u8
 }
 
 fn already(kind: u8, island: Island) -> bool
-    ensures { λ r. ⌜ r ≡ Numbers·already (kindOf kind) island ⌝ }
+    ensures { λ r. ⌜ r ≡ Answers·already (kindOf kind) island ⌝ }
 {
     match kind {
         ISLAND_OCCUPIED => island.occupied,

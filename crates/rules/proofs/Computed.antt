@@ -1,8 +1,8 @@
 -- The definitions that the rows compute with. Whoever says `unfolding computed` opens them all.
+use Rattle.rules.specs.Answers.{answerOf, formAnswer, placeAnswer, stateAnswer, stationAfter, taken}
 use Rattle.rules.specs.Aspect.{aspectOf, freshAdvance, freshNear, greatestRisk, presenceOf, present, someFresh, someHeld}
 use Rattle.rules.specs.Heads.{headOutputs, headsOf}
 use Rattle.rules.specs.Layout.{entryAt, entryOf, header, reportIn, settingsIn}
-use Rattle.rules.specs.Numbers.{answerOf, formAnswer, placeAnswer, stateAnswer, stationAfter, taken}
 use Rattle.rules.specs.Outputs.{outputsOf}
 use Rattle.rules.specs.Printer.{decimal, lengthWritten, printed, refusalLine, rowLine, rowLines, sheetOf, title, written, zonesOf}
 use Rattle.rules.specs.Register.{after, appendAnswer, appended, appendedBytes, entryAnswer, firstWrong, handedBack, handedBackAt, headAnswer, lengthAnswer, readAnswer, readOf, readingOf, registerAnswer, startAnswer, started, stepAnswer, stepOf}

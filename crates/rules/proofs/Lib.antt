@@ -1,5 +1,6 @@
 pub mod BrowseRows
 pub mod Computed
+pub mod FurtherRows
 pub mod HouseRows
 pub mod Refusals
 pub mod RegisterRefusals

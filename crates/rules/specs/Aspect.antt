@@ -11,6 +11,8 @@ use Rattle.rules.specs.declared.Settings.{Settings}
 use Rattle.rules.specs.declared.Station.{Station}
 use Rattle.rules.specs.declared.Track.{Track}
 
+-- ---- held and fresh
+
 -- An occupied island is held when its age is at least its timer T1, T2 or T3 (house; the matrices say greater). Otherwise it is fresh.
 abbrev pub held : Settings → Zone → Island → Bool
 held c z i = i .occupied && leb (timer c z) (i .age)
@@ -21,14 +23,22 @@ fresh c z i = i .occupied && not (leb (timer c z) (i .age))
 abbrev pub freshApproaching : Settings → Zone → Island → Bool
 freshApproaching c z i = fresh c z i && approaching i
 
--- Some track has a fresh approaching island,
+-- ---- the greatest-risk condition
+
+-- a fresh approaching island of the track
 unfoldable pub someFresh : Settings → Track → Bool
 someFresh c t = anyIsland (λ z i. freshApproaching c z i) t
 
--- and at least two tracks have an island that is approaching, held, or a leaving warning island. Two trains on one track never count as two
--- (house): it is the track that is counted.
+-- an island of the track that is approaching, held, or a leaving warning island
 unfoldable pub present : Settings → Track → Bool
 present c t = anyIsland (λ z i. approaching i || held c z i || isWarning z && goingAway i) t
+
+-- The greatest-risk condition: some track has a fresh approaching island, and at least two tracks have an island that is approaching, held, or
+-- a leaving warning island. Two trains on one track never count as two (house): it is the track that is counted.
+unfoldable pub greatestRisk : Station → Bool
+greatestRisk s = any (someFresh (s .settings)) (live s) && leb 2 (count (present (s .settings)) (live s))
+
+-- ---- the aspect
 
 -- a fresh approaching warning or crossing island
 unfoldable pub freshNear : Settings → Track → Bool
@@ -41,11 +51,6 @@ freshAdvance c t = anyIsland (λ z i. isAdvance z && freshApproaching c z i) t
 -- any held island
 unfoldable pub someHeld : Settings → Track → Bool
 someHeld c t = anyIsland (λ z i. held c z i) t
-
--- The greatest-risk condition: some track has a fresh approaching island, and at least two tracks have an island that is approaching, held, or
--- a leaving warning island.
-unfoldable pub greatestRisk : Station → Bool
-greatestRisk s = any (someFresh (s .settings)) (live s) && leb 2 (count (present (s .settings)) (live s))
 
 -- The first line that holds gives the aspect.
 unfoldable pub aspectOf : Station → ℕ
@@ -65,8 +70,10 @@ aspectOf s =
     -- 6. otherwise: 0, permitted
     0
 
--- A track's presence is what the greatest-risk condition counts; a track beyond the number has none. (House, and of a station refused with 8 every
--- track is shown as present.)
+-- ---- presence (house)
+
+-- A track's presence is what the greatest-risk condition counts; a track beyond the number has none. (Of a station refused with 8 every track is
+-- shown as present.)
 unfoldable pub presenceOf : Station → List Bool
 presenceOf s =
     cond (withinLimits (s .settings)) (map (λ a. ltb a (s .settings .tracks) && present (s .settings) (trackAt s a)) (0 ∷ 1 ∷ 2 ∷ 3 ∷ []))

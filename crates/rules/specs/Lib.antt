@@ -1,4 +1,5 @@
--- The paper, in its own order, which is the order to read it in.
+-- The paper, in its own order, which is the order to read it in. Words from further on: Station, Siting and Register give numbers of Numbers, Reports asks
+-- the condition of Aspect, and Register the answers of Answers.
 pub mod Words
 pub mod Station
 pub mod Reports
@@ -9,8 +10,8 @@ pub mod Siting
 pub mod Layout
 pub mod Register
 pub mod Browser
-pub mod Answers
 pub mod Numbers
+pub mod Answers
 pub mod Printer
 -- What tries it.
 pub mod rows

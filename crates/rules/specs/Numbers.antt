@@ -1,114 +1,60 @@
--- Document 01, "The numbers it answers": 0 to 8, to a report, in their order.
+-- Document 01, "The numbers it answers": each number under a name.
 use Prim.Native.Nat.{ℕ}
-use mathlib.Core.Bool.{Bool, true, false, cond, not, _&&_, _||_}
-use lib.Dec.{eqb, leb, ltb}
-use Rattle.rules.specs.Answers.{alreadySo, badField, done, noSuchHead, noSuchIsland, noSuchKind, noSuchTrack, notClear}
-use Rattle.rules.specs.Reports.{Kind, acted, clock, detectorFailed, detectorRestored, headCondition, islandFree, islandOccupied, kindOf, namedIsland, noKind, normalise}
-use Rattle.rules.specs.Station.{obstructed, settingsAnswer}
-use Rattle.rules.specs.Words.{_if_then_, _▷_}
-use Rattle.rules.specs.declared.Island.{Island}
-use Rattle.rules.specs.declared.Report.{Report}
-use Rattle.rules.specs.declared.Station.{Station}
-use Rattle.rules.specs.declared.Taken.{Taken}
 
--- ---- what is asked of a report, by its kind
+abbrev pub done : ℕ
+done = 0
 
--- kind is 1 to 7
-abbrev pub known : Kind → Bool
-known islandOccupied = true
-known islandFree = true
-known clock = true
-known detectorFailed = true
-known detectorRestored = true
-known headCondition = true
-known normalise = true
-known noKind = false
+-- kind is not 1 to 7
+abbrev pub noSuchKind : ℕ
+noSuchKind = 1
 
--- a field shown as 0 is not, clock value 0, condition above 1023
-abbrev pub wrongFields : Kind → Report → Bool
-wrongFields islandOccupied r = not (eqb (r .value) 0)
-wrongFields islandFree r = not (eqb (r .value) 0)
-wrongFields clock r = not (eqb (r .a) 0) || not (eqb (r .b) 0) || eqb (r .value) 0
-wrongFields detectorFailed r = not (eqb (r .value) 0)
-wrongFields detectorRestored r = not (eqb (r .value) 0)
-wrongFields headCondition r = not (eqb (r .b) 0) || ltb 1023 (r .value)
-wrongFields normalise r = not (eqb (r .a) 0) || not (eqb (r .b) 0) || not (eqb (r .value) 0)
-wrongFields noKind r = false
+-- spare not 0, a field shown as 0 is not, clock value 0, condition above 1023
+abbrev pub badField : ℕ
+badField = 2
 
--- a is a track and b an island; or a is a head
-abbrev pub namesIsland : Kind → Bool
-namesIsland islandOccupied = true
-namesIsland islandFree = true
-namesIsland clock = false
-namesIsland detectorFailed = true
-namesIsland detectorRestored = true
-namesIsland headCondition = false
-namesIsland normalise = false
-namesIsland noKind = false
+abbrev pub noSuchTrack : ℕ
+noSuchTrack = 3
 
-abbrev pub namesHead : Kind → Bool
-namesHead islandOccupied = false
-namesHead islandFree = false
-namesHead clock = false
-namesHead detectorFailed = false
-namesHead detectorRestored = false
-namesHead headCondition = true
-namesHead normalise = false
-namesHead noKind = false
+-- island above 4
+abbrev pub noSuchIsland : ℕ
+noSuchIsland = 4
+
+-- head above 1
+abbrev pub noSuchHead : ℕ
+noSuchHead = 5
 
 -- occupied, free, failed or not failed already
-abbrev pub already : Kind → Island → Bool
-already islandOccupied i = i .occupied
-already islandFree i = not (i .occupied)
-already clock i = false
-already detectorFailed i = i .failed
-already detectorRestored i = not (i .failed)
-already headCondition i = false
-already normalise i = false
-already noKind i = false
+abbrev pub alreadySo : ℕ
+alreadySo = 6
 
 -- normalise with an island occupied or a detector failed
-abbrev pub blocked : Kind → Station → Bool
-blocked islandOccupied s = false
-blocked islandFree s = false
-blocked clock s = false
-blocked detectorFailed s = false
-blocked detectorRestored s = false
-blocked headCondition s = false
-blocked normalise s = obstructed s
-blocked noKind s = false
+abbrev pub notClear : ℕ
+notClear = 7
 
--- ---- the answer to a report, and the station after it
+-- setting (also of a station handed in) or siting number outside its limits; in appending, header settings not the station's
+abbrev pub outsideLimits : ℕ
+outsideLimits = 8
 
-unfoldable pub formAnswer : Report → ℕ
-formAnswer r =
-    noSuchKind if not (known (kindOf (r .kind))) then
-    badField if not (eqb (r .spare) 0) || wrongFields (kindOf (r .kind)) r then
-    done
+-- register shorter than 16 bytes or wrong mark
+abbrev pub notARegister : ℕ
+notARegister = 9
 
-unfoldable pub placeAnswer : Station → Report → ℕ
-placeAnswer s r =
-    noSuchTrack if namesIsland (kindOf (r .kind)) && leb (s .settings .tracks) (r .a) then
-    noSuchHead if namesHead (kindOf (r .kind)) && ltb 1 (r .a) then
-    noSuchIsland if namesIsland (kindOf (r .kind)) && ltb 4 (r .b) then
-    done
+-- version not 1
+abbrev pub otherVersion : ℕ
+otherVersion = 10
 
-unfoldable pub stateAnswer : Station → Report → ℕ
-stateAnswer s r =
-    alreadySo if already (kindOf (r .kind)) (namedIsland s r) then
-    notClear if blocked (kindOf (r .kind)) s then
-    done
+-- length less 16 is no multiple of 8
+abbrev pub cutEntry : ℕ
+cutEntry = 11
 
--- Order: a report is tested for 8 (the station's settings), 1, 2, then 3 or 5, 4, and 6 or 7.
-unfoldable pub answerOf : Station → Report → ℕ
-answerOf s r = settingsAnswer (s .settings) ▷ formAnswer r ▷ placeAnswer s r ▷ stateAnswer s r
+-- no room, or more than 8,190 entries
+abbrev pub noRoom : ℕ
+noRoom = 12
 
--- the station after a report that is answered with this number
-abbrev pub afterAnswer : Station → Report → ℕ → Station
-afterAnswer s r answer = cond (eqb answer done) (acted (kindOf (r .kind)) s r) s
+-- an entry's answer or aspect isn't what the replay gives
+abbrev pub notReplayed : ℕ
+notReplayed = 13
 
-unfoldable pub stationAfter : Station → Report → Station
-stationAfter s r = afterAnswer s r (answerOf s r)
-
-unfoldable pub taken : Station → Report → Taken
-taken s r = record { answer = answerOf s r; station = stationAfter s r }
+-- stepping back to, or handing back, a row above the count; handing back row 0
+abbrev pub noSuchRow : ℕ
+noSuchRow = 14

@@ -26,7 +26,7 @@ abbrev pub bits : List Column → ℕ
 bits [] = 0
 bits (c ∷ cs) = 2 ^ place c + bits cs
 
--- What each aspect shows: a lamp, with the sounder that document 000 ties to it. S1 goes with VI, S2 with RF, S3 with R+, S4 with NI.
+-- What each aspect shows: its lamps, and the sounder that document 000 ties to them. S1 goes with VI, S2 with RF, S3 with R+, S4 with NI.
 abbrev pub permitted : List Column
 permitted = VF ∷ []
 
@@ -45,7 +45,7 @@ surroundings = NI ∷ S4 ∷ []
 abbrev pub outOfService : List Column
 outOfService = []
 
--- Aspects 0 to 5 in order; a number above 5 shows nothing.
+-- Aspects 0 to 5 give 1, 34, 72, 152, 260, 0; a number above 5 gives 0.
 abbrev pub shown : ℕ → List Column
 shown aspect = getD (permitted ∷ clearing ∷ forbidden ∷ greatestRisk ∷ surroundings ∷ outOfService ∷ []) aspect []
 

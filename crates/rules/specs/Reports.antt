@@ -34,7 +34,7 @@ warningBeside k = cond (eqb k 0) 1 3
 
 -- The crossing is always approaching. A warning island is leaving exactly when the crossing of that track is occupied and the advance island
 -- of the same side is not both occupied and approaching. An advance island is leaving exactly when the warning island of the same side is
--- occupied and leaving. Otherwise approaching.
+-- occupied and leaving. Otherwise approaching. (House; it gives the matrices N1, N2.1, N2.2, N10.2.)
 abbrev pub leavingIn : Track → ℕ → Zone → Bool
 leavingIn t k crossing = false
 leavingIn t k warning = islandAt t 2 .occupied && not (approaching (islandAt t (advanceBeside k)))
@@ -47,6 +47,7 @@ leavingMark t k = leavingIn t k (getD zones k crossing)
 unfoldable pub occupiedNow : Track → ℕ → Island
 occupiedNow t k = record { occupied = true; leaving = leavingMark t k; failed = islandAt t k .failed; age = 0 }
 
+-- Free: no mark, and age 0 (house).
 unfoldable pub freeNow : Track → ℕ → Island
 freeNow t k = record { occupied = false; leaving = false; failed = islandAt t k .failed; age = 0 }
 
@@ -77,7 +78,7 @@ olderTrack t = record { islands = map older (t .islands) }
 unfoldable pub late : Settings → Track → Bool
 late c t = anyIsland (λ z i. isWarning z && i .occupied && leb (c .t5) (i .age)) t
 
--- If the greatest-risk condition is false and the hold is above 0, the hold falls by one;
+-- In a single tick: if the greatest-risk condition is false and the hold is above 0, the hold falls by one;
 unfoldable pub holdLowered : Station → Station
 holdLowered s = withHold s (cond (not (greatestRisk s) && ltb 0 (s .hold)) (s .hold - 1) (s .hold))
 

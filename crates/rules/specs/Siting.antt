@@ -2,7 +2,7 @@
 use Prim.Native.Nat.{ℕ, _+_, _-_, _*_, _/_}
 use mathlib.Core.Bool.{Bool, cond, not, _&&_}
 use lib.Dec.{eqb}
-use Rattle.rules.specs.Answers.{done, outsideLimits}
+use Rattle.rules.specs.Numbers.{done, outsideLimits}
 use Rattle.rules.specs.Words.{within, _if_then_}
 use Rattle.rules.specs.declared.Seconds.{Seconds}
 use Rattle.rules.specs.declared.Sited.{Sited}

@@ -4,7 +4,7 @@ use mathlib.Core.Bool.{Bool, true, false, cond, not, _&&_, _||_}
 use mathlib.Core.List.{List, [], _∷_}
 use lib.Dec.{eqb, ltb}
 use lib.ListN.{drop, getD, replicate, set, take}
-use Rattle.rules.specs.Answers.{done, outsideLimits}
+use Rattle.rules.specs.Numbers.{done, outsideLimits}
 use Rattle.rules.specs.Words.{any, anyWith, within, _if_then_}
 use Rattle.rules.specs.declared.Island.{Island}
 use Rattle.rules.specs.declared.Made.{Made}
@@ -31,7 +31,8 @@ isAdvance advance = true
 isAdvance warning = false
 isAdvance crossing = false
 
--- An island is free, or occupied with a mark (approaching or leaving) and an age in clock ticks. A free island has no mark and age 0.
+-- An island is free, or occupied with a mark (approaching or leaving) and an age in clock ticks. A free island has no mark and
+-- age 0 (house).
 abbrev pub approaching : Island → Bool
 approaching i = i .occupied && not (i .leaving)
 
@@ -45,6 +46,7 @@ free = record { occupied = false; leaving = false; failed = false; age = 0 }
 abbrev pub freeTrack : Track
 freeTrack = record { islands = replicate 5 free }
 
+-- (house: past the last one a free island is read, and a free track)
 abbrev pub islandAt : Track → ℕ → Island
 islandAt t k = getD (t .islands) k free
 
@@ -123,6 +125,7 @@ withCondition s h n = withConditions s (set (s .conditions) h n)
 abbrev pub leastSettings : Settings
 leastSettings = record { tracks = 1; t1 = 1; t2 = 1; t3 = 1; t4 = 1; t5 = 2 }
 
+-- 8: setting outside its limits
 unfoldable pub settingsAnswer : Settings → ℕ
 settingsAnswer c = outsideLimits if not (withinLimits c) then done
 

@@ -2,10 +2,11 @@
 pub mod Row
 pub mod Machine
 pub mod Table
-pub mod HouseRows
-pub mod StationRows
 pub mod Refusals
+pub mod HouseRows
 pub mod RegisterRows
+pub mod StationRows
 pub mod RegisterRefusals
+pub mod FurtherRows
 pub mod BrowseRows
 pub mod SheetRows

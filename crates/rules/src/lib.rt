@@ -82,7 +82,7 @@ pub struct Taken {
     pub station: Station,
 }
 
-// ---- "From islands to aspect", and what else a station shows
+// ---- "From islands to aspect"
 
 // The aspects by number.
 pub const PERMITTED: u8 = 0;
@@ -97,14 +97,13 @@ pub const SURROUNDINGS: u8 = 4;
 
 pub const OUT_OF_SERVICE: u8 = 5;
 
-// What each head shows: nine output bits.
-pub type HeadOutputs = [u16; 2];
-
-// 0 where any track occupies the island, else 1, in island order.
-pub type ZoneDigits = [u8; 5];
-
 // Whether a track counts for the greatest risk.
 pub type TrackPresence = [bool; 4];
+
+// ---- "The heads"
+
+// What each head shows: nine output bits.
+pub type HeadOutputs = [u16; 2];
 
 // ---- "Siting"
 
@@ -172,7 +171,7 @@ pub struct Reading {
 
 // ---- "The numbers it answers"
 
-// Each number under a name. The definitions have the same names in specs/Answers.antt.
+// Each number under a name. The definitions have the same names in specs/Numbers.antt.
 pub const DONE: u8 = 0;
 
 pub const NO_SUCH_KIND: u8 = 1;
@@ -204,6 +203,9 @@ pub const NOT_REPLAYED: u8 = 13;
 pub const NO_SUCH_ROW: u8 = 14;
 
 // ---- "The matrix printer"
+
+// 0 where any track occupies the island, else 1, in island order.
+pub type ZoneDigits = [u8; 5];
 
 // What a row of a sheet shows: its entry's number, the five zone digits in island order, the nine
 // output bits, VF first, and the answer.

@@ -3,7 +3,7 @@ use mathlib.Core.Path.{_≡_, ap}
 use mathlib.Core.List.{List, [], _∷_, _++_, append-assoc, append-nil}
 use Prim.Native.Nat.{ℕ}
 use borrow.Author.Tests.{eq-eqb, ne-eqb}
-use Rattle.rules.specs.Answers.{notReplayed}
+use Rattle.rules.specs.Numbers.{notReplayed}
 use Rattle.rules.specs.Printer.{decimal, lineFeed, outputText, refusalLine, rowLine, space, zoneText}
 use Rattle.rules.specs.declared.RowFields.{RowFields}
 

@@ -5,7 +5,7 @@ use Prim.Native.Nat.{ℕ, _*_, _≤_}
 use native.Mathlib.Nat.{le-trans, mul-le-mul}
 use lib.Dec.{T, leb, lit≤}
 use borrow.Author.Tests.{leb-true}
-use Rattle.rules.specs.Answers.{done, outsideLimits}
+use Rattle.rules.specs.Numbers.{done, outsideLimits}
 use Rattle.rules.specs.Siting.{sited, speedGood}
 use Rattle.rules.specs.Words.{within, _if_then_}
 use Rattle.rules.specs.declared.Sited.{Sited}

@@ -1,7 +1,7 @@
 // Document 01, "Siting": how far from the crossing the detectors stand.
 ghost use mathlib.Core.Path.{_≡_};
 ghost use Prim.Native.Nat.{_≤_};
-ghost use Rattle.rules.specs.Answers.{done, outsideLimits};
+ghost use Rattle.rules.specs.Numbers.{done, outsideLimits};
 ghost use Rattle.rules.specs.Siting.{advanceSited, roundedUp, sited, warningSited};
 use rules::DONE;
 use rules::Metres;

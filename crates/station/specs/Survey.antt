@@ -1,4 +1,4 @@
--- What document 01, "From islands to aspect", asks of a station's tracks, side by side.
+-- What document 01, "From islands to aspect", asks of a station's tracks, side by side. (Not for belief: each is a definition of `rules`.)
 use mathlib.Core.Bool.{Bool, _&&_}
 use mathlib.Core.List.{List}
 use lib.Dec.{leb}

@@ -36,7 +36,7 @@ withTurns r u =
 abbrev pub riskAt : Timetable → ℕ → Bool
 riskAt r n = ltb n (r .fresh) && leb (r .second) n
 
--- a hold that falls by one where the condition is false, and is set to T4 where it is true
+-- a hold that falls by one where the condition is false
 abbrev pub lowered : Bool → ℕ → ℕ
 lowered risk hold = cond (not risk && ltb 0 hold) (hold - 1) hold
 

@@ -1,4 +1,4 @@
-// A station: what it is, what it shows, and what the clock does to it.
+// A station: how it is made, what it shows, and what the clock does to it.
 mod changing;
 mod making;
 mod showing;

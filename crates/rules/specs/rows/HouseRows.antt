@@ -3,9 +3,9 @@
 use Prim.Native.Nat.{ℕ}
 use mathlib.Core.Bool.{Bool, true, false}
 use mathlib.Core.List.{List, [], _∷_, _++_, map}
+use Rattle.rules.specs.Answers.{stationAfter}
 use Rattle.rules.specs.Aspect.{presenceOf}
 use Rattle.rules.specs.Heads.{headOutputs, headsOf}
-use Rattle.rules.specs.Numbers.{stationAfter}
 use Rattle.rules.specs.Outputs.{outputsOf}
 use Rattle.rules.specs.Printer.{zonesOf}
 use Rattle.rules.specs.Reports.{older, withIsland}
@@ -65,20 +65,20 @@ shownOld failed island age =
 
 abbrev pub houseRows : List Row
 houseRows =
-    -- 1: lowering the hold on the tick that ends the condition, T4 = 1 would hold nothing. Both islands are held at tick 300; the hold is gone at 301.
+    -- H1: lowering the hold on the tick that ends the condition, T4 = 1 would hold nothing. Both islands are held at tick 300; the hold is gone at 301.
     row 1 (shownWith 1 (occupied 0 4 ∷ occupied 1 4 ∷ clock 299 ∷ [])) 152
     ∷ row 1 (shownWith 1 (occupied 0 4 ∷ occupied 1 4 ∷ clock 300 ∷ [])) 152
     ∷ row 1 (shownWith 1 (occupied 0 4 ∷ occupied 1 4 ∷ clock 301 ∷ [])) 260
-    -- 2: a held island on one track does not hide a fresh leaving warning island from the count
+    -- H2: a held island on one track does not hide a fresh leaving warning island from the count
     ∷ row 2 (shown (occupied 0 4 ∷ clock 300 ∷ leaving 1 ++ (occupied 0 3 ∷ []))) 152
-    -- 3: two trains on one track never count as two
+    -- H3: two trains on one track never count as two
     ∷ row 3 (shown (occupied 0 0 ∷ occupied 0 4 ∷ [])) 34
-    -- 4: the same train by the other side: its warning and advance islands of side 2 are leaving,
+    -- H4: the same train by the other side: its warning and advance islands of side 2 are leaving,
     ∷ row 4 (shown (occupied 0 0 ∷ occupied 0 1 ∷ freed 0 0 ∷ occupied 0 2 ∷ occupied 0 3 ∷ freed 0 1 ∷ freed 0 2 ∷ [])) 1
     ∷ row 4 (shown (occupied 0 2 ∷ occupied 0 3 ∷ freed 0 2 ∷ occupied 0 4 ∷ freed 0 3 ∷ [])) 1
     -- and held after their timers like any other
     ∷ row 4 (shown (occupied 0 2 ∷ occupied 0 3 ∷ freed 0 2 ∷ clock 300 ∷ [])) 260
-    -- 5: a warning island is approaching where the advance island of the same side is occupied and approaching, though the crossing is occupied; the other
+    -- H5: a warning island is approaching where the advance island of the same side is occupied and approaching, though the crossing is occupied; the other
     -- side's advance island is not asked
     ∷ row 5 (shown (occupied 0 2 ∷ occupied 0 4 ∷ occupied 0 3 ∷ freed 0 2 ∷ [])) 72
     ∷ row 5 (shown (occupied 0 2 ∷ occupied 0 4 ∷ occupied 0 1 ∷ freed 0 2 ∷ [])) 34
@@ -87,36 +87,36 @@ houseRows =
     -- with the crossing free it is approaching; an advance island beside a warning island that is not leaving is approaching too
     ∷ row 5 (shown (occupied 0 3 ∷ [])) 72
     ∷ row 5 (shown (occupied 0 3 ∷ occupied 0 4 ∷ freed 0 3 ∷ [])) 34
-    -- 6: a failed detector latches the fault; restoring does not unlatch it; normalise does
+    -- H6: a failed detector latches the fault; restoring does not unlatch it; normalise does
     ∷ row 6 (shown (failed 1 0 ∷ [])) 0
     ∷ row 6 (shown (failed 1 0 ∷ restored 1 0 ∷ [])) 0
     ∷ row 6 (shown (failed 1 0 ∷ restored 1 0 ∷ normalised ∷ [])) 1
-    -- 7: reports of trains are taken while the fault is latched
+    -- H7: reports of trains are taken while the fault is latched
     ∷ row 7 (ours .answer (c1 ours) (occupied 0 4)) 0
-    -- 8: normalise sets the hold to 0
+    -- H8: normalise sets the hold to 0
     ∷ row 8 (outputs ours (run ours (c9 ours) (freed 0 4 ∷ []))) 152
     ∷ row 8 (outputs ours (run ours (c9 ours) (freed 0 4 ∷ normalised ∷ []))) 1
-    -- 9: n ticks are n single ticks, in one report or in several
+    -- H9: n ticks are n single ticks, in one report or in several
     ∷ row 9 (outputs ours (run ours (c9 ours) (clock 20 ∷ clock 29 ∷ []))) 152
     ∷ row 9 (outputs ours (run ours (c9 ours) (clock 20 ∷ clock 30 ∷ []))) 34
-    -- 10: a leaving warning island latches the fault too
+    -- H10: a leaving warning island latches the fault too
     ∷ row 10 (shown (leaving 0 ++ (clock 599 ∷ []))) 260
     ∷ row 10 (shown (leaving 0 ++ (clock 600 ∷ []))) 0
-    -- 11: an age stops at 65535
+    -- H11: an age stops at 65535
     ∷ row 11 (older (record { occupied = true; leaving = true; failed = true; age = 65534 }) .age) 65535
     ∷ row 11 (older (record { occupied = true; leaving = true; failed = true; age = 65535 }) .age) 65535
     ∷
-    -- 12: T1 belongs to the advance islands, T2 to warning, T3 to the crossing
+    -- H12: T1 belongs to the advance islands, T2 to warning, T3 to the crossing
     rows 12 (map (shownAged 4) (99 ∷ 100 ∷ [])) (34 ∷ 260 ∷ [])
     ++ rows 12 (map (shownAged 3) (199 ∷ 200 ∷ [])) (72 ∷ 260 ∷ [])
     ++ rows 12 (map (shownAged 2) (299 ∷ 300 ∷ [])) (72 ∷ 260 ∷ [])
-    -- 13: a held island counts, though it is leaving. Track 0's becomes held at tick 300, when track 1's is fresh: the condition becomes true on a tick,
+    -- H13: a held island counts, though it is leaving. Track 0's becomes held at tick 300, when track 1's is fresh: the condition becomes true on a tick,
     -- which sets the hold, so freeing the held island leaves the aspect.
     ++ rows 13 (map (λ n. shownWith 50 (departing 0 ++ (clock 100 ∷ occupied 1 4 ∷ clock n ∷ []))) (199 ∷ 200 ∷ [])) (34 ∷ 152 ∷ [])
     ++ rows 13 (shownWith 50 (departing 0 ++ (clock 100 ∷ occupied 1 4 ∷ clock 200 ∷ freed 0 0 ∷ [])) ∷ []) (152 ∷ [])
-    -- 14: after every accepted report the hold is set to T4 if the greatest-risk condition is then true, on a station handed in with less
+    -- H14: after every accepted report the hold is set to T4 if the greatest-risk condition is then true, on a station handed in with less
     ++ rows 14 (map (λ r. stationAfter unheld r .hold) (freed 1 0 ∷ failed 1 0 ∷ restored 1 1 ∷ condition 0 8 ∷ [])) (50 ∷ 50 ∷ 50 ∷ 50 ∷ [])
-    -- 15: a detector stays failed while its island is occupied and freed, and an island occupied while its detector fails and is restored
+    -- H15: a detector stays failed while its island is occupied and freed, and an island occupied while its detector fails and is restored
     ++ rows 15
     (answerAfter (failed 0 4 ∷ occupied 0 4 ∷ freed 0 4 ∷ []) normalised
     ∷ answerAfter (occupied 0 4 ∷ failed 0 4 ∷ freed 0 4 ∷ []) normalised
@@ -124,38 +124,38 @@ houseRows =
     ∷ answerAfter (occupied 0 4 ∷ failed 0 4 ∷ restored 0 4 ∷ []) (occupied 0 4)
     ∷ [])
     (7 ∷ 7 ∷ 6 ∷ 6 ∷ [])
-    -- 16: a free island has no mark and age 0; occupied, its age becomes 0
+    -- H16: a free island has no mark and age 0; occupied, its age becomes 0
     ++ rows 16 (seen (leaving 0 ++ (clock 5 ∷ [])) ++ seen (leaving 0 ++ (clock 5 ∷ freed 0 1 ∷ []))) (1 ∷ 1 ∷ 5 ∷ 0 ∷ 0 ∷ 0 ∷ [])
     ++ rows 16 (seen (leaving 0 ++ (clock 5 ∷ freed 0 1 ∷ occupied 0 1 ∷ []))) (1 ∷ 0 ∷ 0 ∷ [])
-    -- 17: a number above 5 gives 0
+    -- H17: a number above 5 gives 0
     ++ rows 17 (map outputsOf (0 ∷ 1 ∷ 2 ∷ 3 ∷ 4 ∷ 5 ∷ 6 ∷ 255 ∷ [])) (1 ∷ 34 ∷ 72 ∷ 152 ∷ 260 ∷ 0 ∷ 0 ∷ 0 ∷ [])
-    -- 18: any failed lamp or board: the five lamp outputs 0, sounders kept
+    -- H18: any failed lamp or board: the five lamp outputs 0, sounders kept
     ++ rows 18 (map (headOutputs 152) (1 ∷ 2 ∷ 4 ∷ 8 ∷ 15 ∷ [])) (128 ∷ 128 ∷ 128 ∷ 128 ∷ 128 ∷ [])
-    -- 19: power, communication, or more than one failed sounder: outputs 0
+    -- H19: power, communication, or more than one failed sounder: outputs 0
     ++ rows 19 (map (headOutputs 152) (256 ∷ 512 ∷ 48 ∷ 144 ∷ 240 ∷ [])) (0 ∷ 0 ∷ 0 ∷ 0 ∷ 0 ∷ [])
-    -- 20: one failed sounder: that one silent. Bits from 10 up are not read.
+    -- H20: one failed sounder: that one silent. Bits from 10 up are not read.
     ++ rows 20
     (headOutputs 34 16 ∷ headOutputs 72 32 ∷ headOutputs 152 64 ∷ headOutputs 260 128 ∷ headOutputs 152 16 ∷ headOutputs 152 1024 ∷ [])
     (2 ∷ 8 ∷ 24 ∷ 4 ∷ 152 ∷ 152 ∷ [])
-    -- 21: the two heads are worked out apart
+    -- H21: the two heads are worked out apart
     ++ rows 21 (headsOf (run ours (c7 ours) (condition 1 8 ∷ []))) (152 ∷ 128 ∷ [])
-    -- 22: five zone digits in island order, 0 if any track occupies it
+    -- H22: five zone digits in island order, 0 if any track occupies it
     ++ rows 22 (zonesOf (c3 ours)) (1 ∷ 1 ∷ 1 ∷ 1 ∷ 0 ∷ [])
     ++ rows 22 (zonesOf (c4 ours)) (1 ∷ 1 ∷ 1 ∷ 0 ∷ 0 ∷ [])
     ++ rows 22 (zonesOf (c7 ours)) (1 ∷ 0 ∷ 1 ∷ 1 ∷ 0 ∷ [])
     ++ rows 22 (zonesOf fiveTracks) (0 ∷ 0 ∷ 0 ∷ 0 ∷ 0 ∷ [])
-    -- 23: a track's presence is what the greatest-risk condition counts
+    -- H23: a track's presence is what the greatest-risk condition counts
     ++ rows 23 (digits (presenceOf (c2 ours))) (0 ∷ 0 ∷ 0 ∷ 0 ∷ [])
     ++ rows 23 (digits (presenceOf (c7 ours))) (1 ∷ 1 ∷ 0 ∷ 0 ∷ [])
     ++ rows 23 (digits (presenceOf fiveTracks)) (1 ∷ 1 ∷ 1 ∷ 1 ∷ [])
-    -- 24: in a single tick the hold falls by one and ages grow by one, whether the fault is latched or not
+    -- H24: in a single tick the hold falls by one and ages grow by one, whether the fault is latched or not
     ++ rows 24 (holdAndAge 20 trainGone ++ holdAndAge 20 (normalised ∷ trainGone)) (30 ∷ 20 ∷ 30 ∷ 20 ∷ [])
-    -- 25: an island is held when its age is at least its timer, where that is 65535 by an age that stops there
+    -- H25: an island is held when its age is at least its timer, where that is 65535 by an age that stops there
     ++ rows 25 (map (shownOld false 4) (65533 ∷ 65534 ∷ 65535 ∷ [])) (34 ∷ 260 ∷ 260 ∷ [])
-    -- 26: the fault latches if an occupied warning island's age is T5 or more, up to 65535 and whatever its detector
+    -- H26: the fault latches if an occupied warning island's age is T5 or more, up to 65535 and whatever its detector
     ++ rows 26 (map (shownOld false 3) (65533 ∷ 65534 ∷ 65535 ∷ [])) (260 ∷ 0 ∷ 0 ∷ [])
     ++ rows 26 (map (shownOld true 3) (65533 ∷ 65534 ∷ 65535 ∷ [])) (260 ∷ 0 ∷ 0 ∷ [])
-    -- 27: the fault stays latched whatever is reported but a normalise: of a fresh station, and after a warning island is free again
+    -- H27: the fault stays latched whatever is reported but a normalise: of a fresh station, and after a warning island is free again
     ++ rows 27
     (map (λ reports. outputs ours (run ours (c1 ours) reports))
     ((occupied 0 4 ∷ [])
@@ -168,7 +168,7 @@ houseRows =
     (0 ∷ 0 ∷ 0 ∷ 0 ∷ 0 ∷ 0 ∷ [])
     -- and no restored detector latches it: of a station handed in, with one failed and no fault
     ++ rows 27 (outputs ours (run ours (withFault (run ours (c2 ours) (failed 0 4 ∷ [])) false) (restored 0 4 ∷ [])) ∷ []) (1 ∷ [])
-    -- 28: where the condition is false, no report but the clock and a normalise changes the hold
+    -- H28: where the condition is false, no report but the clock and a normalise changes the hold
     ++ rows 28
     (map (λ reports. run ours (c9 ours) reports .hold)
     ((condition 0 1 ∷ [])

@@ -1,8 +1,8 @@
 -- Document 01, "How firm each statement is": a machine is whatever makes stations of settings, takes reports and shows an aspect. Ours is one; the idle
 -- versions that have to be shut out are others.
 use Prim.Native.Nat.{ℕ}
+use Rattle.rules.specs.Answers.{answerOf, stationAfter}
 use Rattle.rules.specs.Aspect.{aspectOf}
-use Rattle.rules.specs.Numbers.{answerOf, stationAfter}
 use Rattle.rules.specs.Station.{made}
 use Rattle.rules.specs.declared.Report.{Report}
 use Rattle.rules.specs.declared.Settings.{Settings}

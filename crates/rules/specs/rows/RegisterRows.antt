@@ -105,7 +105,7 @@ busy = run ours (c2 ours) (occupied 0 4 ∷ occupied 0 3 ∷ [])
 abbrev pub badReports : List Report
 badReports = report 8 1 2 3 1541 ∷ clock 0 ∷ occupied 2 0 ∷ occupied 1 5 ∷ condition 2 258 ∷ occupied 0 4 ∷ normalised ∷ []
 
--- a station, a register and a place where appending is refused with 9, 10, 8 (header outside, both outside, settings not the station's), 12 and 12
+-- a register, a place in it and a station with which appending is refused
 pub record Refused : Type 0 where
   pub bytes : List ℕ
   pub k : ℕ
@@ -114,6 +114,7 @@ pub record Refused : Type 0 where
 abbrev pub refusedWith : List ℕ → ℕ → Station → Refused
 refusedWith bytes k station = record { bytes = bytes; k = k; station = station }
 
+-- refused with 9, 10, 8 (header outside, both outside, settings not the station's), 12 and 12
 abbrev pub unwritten : List Refused
 unwritten =
     refusedWith (set lent 0 68) 0 busy

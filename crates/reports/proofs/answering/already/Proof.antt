@@ -4,7 +4,7 @@ use mathlib.Core.Path.{sym, ap}
 use Prim.Native.Nat.{ℕ}
 use Rattle.reports.proofs.ByNumber.{never-already}
 use Rattle.reports.proofs.answering.already.Statement.{statement}
-use Rattle.rules.specs.Numbers.{already}
+use Rattle.rules.specs.Answers.{already}
 use Rattle.rules.specs.Reports.{kindOf}
 use Rattle.reports.proofs.answering.already.Tie as tie
 

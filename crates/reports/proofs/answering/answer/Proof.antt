@@ -2,7 +2,7 @@
 -- Assumes nothing.
 use Rattle.chains.proofs.Chains.{group-passes, group-refuses}
 use Rattle.reports.proofs.answering.answer.Statement.{statement}
-use Rattle.rules.specs.Numbers.{answerOf}
+use Rattle.rules.specs.Answers.{answerOf}
 use borrow.Author.Needs.{needs}
 use Rattle.reports.proofs.answering.answer.Tie as tie
 

@@ -6,7 +6,7 @@ use lib.Dec.{eqb}
 use mathlib.Core.Path.{refl}
 use Rattle.chains.proofs.Chains.{passes, refuses}
 use Rattle.reports.proofs.answering.form_answer.Statement.{statement}
-use Rattle.rules.specs.Numbers.{formAnswer}
+use Rattle.rules.specs.Answers.{formAnswer}
 use borrow.Author.Needs.{needs}
 use Rattle.reports.proofs.answering.form_answer.Tie as tie
 

@@ -7,7 +7,7 @@ use mathlib.Core.Path.{refl}
 use Rattle.chains.proofs.Chains.{passes, refuses}
 use Rattle.reports.proofs.ByNumber.{names-a-head}
 use Rattle.reports.proofs.answering.place_answer.Statement.{statement}
-use Rattle.rules.specs.Numbers.{placeAnswer}
+use Rattle.rules.specs.Answers.{placeAnswer}
 use borrow.Author.Needs.{needs}
 use Rattle.reports.proofs.answering.place_answer.Tie as tie
 

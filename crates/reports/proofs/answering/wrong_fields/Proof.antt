@@ -6,7 +6,7 @@ use lib.Dec.{eqb}
 use Prim.Native.Nat.{ℕ}
 use Rattle.reports.proofs.ByNumber.{value-alone}
 use Rattle.reports.proofs.answering.wrong_fields.Statement.{statement}
-use Rattle.rules.specs.Numbers.{wrongFields}
+use Rattle.rules.specs.Answers.{wrongFields}
 use Rattle.rules.specs.Reports.{kindOf}
 use borrow.Author.Needs.{needs}
 use Rattle.reports.proofs.answering.wrong_fields.Tie as tie
