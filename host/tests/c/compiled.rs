@@ -22,7 +22,7 @@ pub fn compiled(name: &str, compiler: &str, options: &[&str], files: &[&str]) ->
     command.args(options).args(["-Wall", "-Wextra", "-Werror", "-I"]).arg(package().join("include"));
     command.args(files.iter().map(|file| package().join("tests/c").join(file)));
     // The archive is no source in the language that was named.
-    command.args(["-x", "none"]).arg(package().join("../target/staticlib/libexport.a")).arg("-o").arg(&program);
+    command.args(["-x", "none"]).arg(env!("DEGVUUREL_ARCHIVE")).arg("-o").arg(&program);
     let output = command.output().unwrap_or_else(|error| panic!("'{compiler}' cannot be run, and the tests need it: {error}"));
     assert!(output.status.success(), "{compiler} refuses {files:?}:\n{}", String::from_utf8_lossy(&output.stderr));
     program
