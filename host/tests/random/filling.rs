@@ -3,6 +3,7 @@
 use crate::cases::Case;
 use crate::paper;
 use crate::runs::Bench;
+use crate::shipped::{Fields, APPEND, START};
 use crate::tally::{Asked, Tally};
 use crate::values::{self, answer, same, same_bytes, seen};
 use crate::words::Seen;
@@ -18,11 +19,11 @@ pub struct Filled {
 /// Starts a register and appends every report, by both, and compares all of it after each.
 pub fn fill(case: &Case, bench: &mut Bench) -> Result<Filled, String> {
     let mut bytes = vec![case.filling; HEADER + ENTRY * case.reports.len() + case.beyond];
-    start_both(&mut bytes, case.settings, &mut bench.tally)?;
+    start_both(&mut bytes, case.settings, bench)?;
     let station = made_by_both(case.settings, &mut bench.tally)?.ok_or("the settings are refused")?;
     let mut filled = Filled { bytes, station };
     for (k, &report) in case.reports.iter().enumerate() {
-        append_both(&mut filled, k, report, &mut bench.tally)?;
+        append_both(&mut filled, k, report, bench)?;
         shown_by_both(&filled.station, &mut bench.tally).map_err(|difference| format!("after entry {}: {difference}", k + 1))?;
     }
     bench.tally.registers += 1;
@@ -31,11 +32,17 @@ pub fn fill(case: &Case, bench: &mut Bench) -> Result<Filled, String> {
 }
 
 /// Starts a register by both.
-pub fn start_both(bytes: &mut [u8], settings: Settings, tally: &mut Tally) -> Result<(), String> {
+pub fn start_both(bytes: &mut [u8], settings: Settings, bench: &mut Bench) -> Result<(), String> {
     let mut papers = bytes.to_vec();
-    let answers = (answer(&start(bytes, settings)), paper::start(&mut papers, values::settings(settings)));
-    tally.count(Asked::Start, answers.1);
-    same(format_args!("starting, answer"), &answers.0, &answers.1)?;
+    let of_paper = values::settings(settings);
+    let expected = paper::start(&mut papers, of_paper);
+    bench.tally.count(Asked::Start, expected);
+    bench.ship(format_args!("starting"), || {
+        let (number, fresh) = paper::make(of_paper);
+        let expected = Fields::default().byte(number).station(&fresh).byte(expected).bytes(&papers);
+        (Fields::call(START, 0, bytes).settings(of_paper), expected)
+    })?;
+    same(format_args!("starting, answer"), &answer(&start(bytes, settings)), &expected)?;
     same_bytes(format_args!("starting"), bytes, &papers)
 }
 
@@ -53,13 +60,18 @@ pub fn made_by_both(settings: Settings, tally: &mut Tally) -> Result<Option<Stat
 }
 
 /// Appends a report by both.
-pub fn append_both(filled: &mut Filled, k: usize, report: Report, tally: &mut Tally) -> Result<(), String> {
+pub fn append_both(filled: &mut Filled, k: usize, report: Report, bench: &mut Bench) -> Result<(), String> {
     let mut papers = filled.bytes.clone();
     let mut of_paper = values::station(&filled.station);
+    let expected = paper::append(&mut papers, k, &mut of_paper, values::report(report));
+    bench.tally.count(Asked::Append, expected);
+    bench.ship(format_args!("appending {report} at {k}"), || {
+        let call = Fields::call(APPEND, k, &filled.bytes).station(&values::station(&filled.station));
+        let expected = Fields::default().byte(expected).station(&of_paper).shown(&of_paper).bytes(&papers);
+        (call.report(values::report(report)), expected)
+    })?;
     let outcome = append(&mut filled.bytes, k, &mut filled.station, report);
     let number = outcome.map_or_else(|refusal| refusal.number(), |answer| answer.number());
-    let expected = paper::append(&mut papers, k, &mut of_paper, values::report(report));
-    tally.count(Asked::Append, expected);
     same(format_args!("appending {report} at {k}, answer"), &number, &expected)?;
     same(format_args!("appending {report} at {k}, station"), &seen(&filled.station), &Seen(of_paper))?;
     same_bytes(format_args!("appending {report} at {k}"), &filled.bytes, &papers)

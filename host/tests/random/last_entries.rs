@@ -21,8 +21,8 @@ pub fn try_case(chance: &mut Chance, bench: &mut Bench) -> Result<(), Found> {
     let filling = chance.byte();
     let compared = guarded(|| {
         let mut bytes = vec![filling; length];
-        start_both(&mut bytes, settings, &mut bench.tally)?;
-        append_both(&mut Filled { bytes, station }, k, report, &mut bench.tally)
+        start_both(&mut bytes, settings, bench)?;
+        append_both(&mut Filled { bytes, station }, k, report, bench)
     });
     compared.map_err(|difference| Found {
         size: 1,

@@ -1,5 +1,5 @@
 //! The proved library and the independent implementation of document 01 side by side, over registers, damaged registers and
-//! stations by chance.
+//! stations by chance. Some registers, and damaged ones, go through the archive as it is shipped too, on any processor.
 //!
 //! `DEGVUUREL_SEED` is the seed, and `DEGVUUREL_REGISTERS` the number of registers; without them every run is the same. A part
 //! that differs prints the shortest case found. What was seen is counted, and each answer must be seen often enough.
@@ -18,6 +18,7 @@ mod registers;
 mod reports;
 mod runs;
 mod settings;
+mod shipped;
 mod shrink;
 mod signals;
 mod stations;
@@ -34,6 +35,10 @@ use tally::{Tally, OF_REGISTERS, OF_STATIONS};
 const SEED: u64 = 202_510;
 const REGISTERS: u64 = 200_000;
 
+/// Where fewer registers are asked for, damaged ones and stations are still as many as for these: some answers come from them
+/// alone, and would else be missed by chance.
+const FEWEST: u64 = 5_000;
+
 /// Registers of hundreds of rows, and of as many as there can be.
 const LONG: u64 = 200;
 const FULL: u64 = 2;
@@ -41,8 +46,18 @@ const FULL: u64 = 2;
 /// Appends at the end of the largest register.
 const LAST: u64 = 4_000;
 
-/// Each answer is seen at least so often.
+/// Registers, and as many damaged ones, that go through the shipped code too.
+const SHIPPED: u64 = 2_000;
+
+/// Each answer is seen at least so often among the usual number of registers, and among those that go through the shipped code.
 const LEAST: u64 = 1_000;
+const LEAST_SHIPPED: u64 = 10;
+
+/// The least count falls with the number of registers, but never to nothing, which would prove nothing. It does not rise, since
+/// what is tried whole is as much as ever.
+fn least_of(registers: u64) -> u64 {
+    (LEAST * registers.min(REGISTERS) / REGISTERS).max(1)
+}
 
 fn from_environment(name: &str, otherwise: u64) -> u64 {
     match env::var(name) {
@@ -54,23 +69,33 @@ fn from_environment(name: &str, otherwise: u64) -> u64 {
 fn main() -> ExitCode {
     let seed = from_environment("DEGVUUREL_SEED", SEED);
     let number = from_environment("DEGVUUREL_REGISTERS", REGISTERS);
+    let others = number.max(FEWEST);
     let begun = Instant::now();
     let of_registers = [
         runs::run("registers", seed, number, registers::try_case),
         runs::run("long registers", seed, LONG, registers::try_long),
         runs::run("full registers", seed, FULL, registers::try_full),
         runs::run("last entries", seed, LAST, last_entries::try_case),
-        runs::run("damaged registers", seed, number / 2, damaged::try_case),
+        runs::run("damaged registers", seed, others / 2, damaged::try_case),
         runs::run("long damaged registers", seed, LONG / 2, damaged::try_long),
     ];
-    let of_stations = [runs::run("stations", seed, number * 2, stations::try_case), signals()];
+    let of_stations = [runs::run("stations", seed, others * 2, stations::try_case), signals()];
+    shipped::link();
+    let of_shipped = [
+        runs::run("shipped registers", seed, SHIPPED, |chance, bench| registers::try_case(chance, bench.with_shipped())),
+        runs::run("shipped damaged registers", seed, SHIPPED, |chance, bench| damaged::try_case(chance, bench.with_shipped())),
+    ];
+    let least = least_of(number);
     let registers = summed("registers and damaged ones", &of_registers);
+    let mut rare = registers.rare_answers(least);
+    rare.extend(registers.rare_by_what_was_asked(OF_REGISTERS, least));
     let stations = summed("stations, heads and siting", &of_stations);
-    let mut rare = registers.rare_answers(LEAST);
-    rare.extend(registers.rare_by_what_was_asked(OF_REGISTERS, LEAST));
-    rare.extend(stations.rare_by_what_was_asked(OF_STATIONS, LEAST));
-    rare.iter().for_each(|what| println!("TOO FEW: {what} was seen less than {LEAST} times"));
-    let agree = of_registers.iter().chain(&of_stations).all(Option::is_some);
+    rare.extend(stations.rare_by_what_was_asked(OF_STATIONS, least));
+    let through = summed("through the shipped code too", &of_shipped);
+    println!("{} calls of the shipped code", through.shipped);
+    rare.extend(through.rare_by_what_was_asked(OF_REGISTERS, LEAST_SHIPPED));
+    rare.iter().for_each(|what| println!("TOO FEW: {what}"));
+    let agree = of_registers.iter().chain(&of_stations).chain(&of_shipped).all(Option::is_some);
     let verdict = if agree { "the library and the paper agree" } else { "THE LIBRARY AND THE PAPER DIFFER" };
     println!("{verdict}, {} s", begun.elapsed().as_secs());
     ExitCode::from(u8::from(!agree || !rare.is_empty()))

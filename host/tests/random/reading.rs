@@ -4,8 +4,9 @@ use crate::chance::Chance;
 use crate::lines;
 use crate::paper;
 use crate::runs::Bench;
-use crate::tally::{Asked, Tally};
-use crate::values::{answer, number_at, report_of, same, same_bytes, Outcome};
+use crate::shipped::{self, Fields};
+use crate::tally::Asked;
+use crate::values::{self, answer, number_at, report_of, same, same_bytes, Outcome};
 use degvuurel::{print, report_in, Browser, Refusal, Register, Settings, Station, ENTRY, HEADER};
 
 /// Registers of more entries are stepped to a sample of their rows: stepping to every row takes the square of their number.
@@ -19,16 +20,21 @@ const SHEETS: usize = 50;
 pub fn compare(bytes: &[u8], seed: u64, bench: &mut Bench) -> Result<(), String> {
     let mut chance = Chance::from(seed);
     let register = Register::new(bytes);
-    let read = Outcome::of_paper(paper::read(bytes));
+    let reading = paper::read(bytes);
+    let read = Outcome::of_paper(reading);
     bench.tally.count(Asked::Read, read.answer);
     same(format_args!("reading"), &Outcome::of_reading(register.read()), &read)?;
     same(format_args!("the header's settings"), &register.settings(), &settings_of(bytes))?;
+    bench.ship(format_args!("reading"), || {
+        let settings = values::settings(settings_of(bytes));
+        (Fields::call(shipped::READ, 0, bytes), Fields::default().reading(&reading).settings(settings))
+    })?;
     let entries = bytes.len().saturating_sub(HEADER) / ENTRY;
     for row in rows(entries, &mut chance) {
-        step(register, row, &mut bench.tally)?;
-        hand_back(register, row, &mut bench.tally)?;
+        step(register, row, bench)?;
+        hand_back(register, row, bench)?;
     }
-    browse(register, entries, &mut chance, &mut bench.tally)?;
+    browse(register, entries, &mut chance, bench)?;
     let whole = chance.one_in(SHEETS);
     if whole {
         sheet(register)?;
@@ -53,18 +59,22 @@ fn settings_of(bytes: &[u8]) -> Settings {
     Settings { tracks: bytes.get(5).copied().unwrap_or(0), t1, t2, t3, t4, t5 }
 }
 
-fn step(register: Register, row: usize, tally: &mut Tally) -> Result<(), String> {
-    let expected = Outcome::of_paper(paper::step(register.bytes(), row));
-    tally.count(Asked::Step, expected.answer);
-    tally.rows += 1;
-    same(format_args!("stepping to row {row}"), &Outcome::of_step(register.step(row), row), &expected)
+fn step(register: Register, row: usize, bench: &mut Bench) -> Result<(), String> {
+    let reading = paper::step(register.bytes(), row);
+    let expected = Outcome::of_paper(reading);
+    bench.tally.count(Asked::Step, expected.answer);
+    bench.tally.rows += 1;
+    same(format_args!("stepping to row {row}"), &Outcome::of_step(register.step(row), row), &expected)?;
+    bench.ship(format_args!("stepping to row {row}"), || {
+        (Fields::call(shipped::STEP, row, register.bytes()), Fields::default().reading(&reading))
+    })
 }
 
 /// Both hand back the same part of the lent register, not merely equal bytes.
-fn hand_back(register: Register, row: usize, tally: &mut Tally) -> Result<(), String> {
+fn hand_back(register: Register, row: usize, bench: &mut Bench) -> Result<(), String> {
     let handed = register.entry(row);
     let (number, part) = paper::entry(register.bytes(), row);
-    tally.count(Asked::Entry, number);
+    bench.tally.count(Asked::Entry, number);
     same(format_args!("handing back row {row}, answer"), &answer(&handed), &number)?;
     same(format_args!("handing back row {row}, answer alone"), &register.entry_answer(row).number(), &number)?;
     if let Ok(bytes) = handed {
@@ -73,7 +83,11 @@ fn hand_back(register: Register, row: usize, tally: &mut Tally) -> Result<(), St
         let cut = &bytes[..row % ENTRY];
         same(format_args!("the report of row {row}, cut"), &report_in(cut), &report_of(cut))?;
     }
-    Ok(())
+    bench.ship(format_args!("handing back row {row}"), || {
+        let at = if number == 0 { HEADER + ENTRY * (row - 1) } else { 0 };
+        let expected = Fields::default().byte(number).byte(number).number(at).number(part.len());
+        (Fields::call(shipped::ENTRY, row, register.bytes()), expected)
+    })
 }
 
 /// A browser and where it should stand.
@@ -86,29 +100,42 @@ struct Walk<'a> {
 const NO_ROW: usize = usize::MAX;
 
 impl Walk<'_> {
-    fn moved(&mut self, word: &str, row: usize, shown: Result<Station, Refusal>, tally: &mut Tally) -> Result<(), String> {
-        let expected = Outcome::of_paper(paper::step(self.browser.register().bytes(), row));
-        tally.count(Asked::Browse, expected.answer);
-        same(format_args!("browsing {word} from row {}", self.place), &Outcome::of_step(shown, row), &expected)?;
+    /// It moved towards a row, which the shipped code is asked for by a letter and a row.
+    fn moved(
+        &mut self,
+        word: &str,
+        row: usize,
+        shown: Result<Station, Refusal>,
+        (letter, asked): (u8, usize),
+        bench: &mut Bench,
+    ) -> Result<(), String> {
+        let (bytes, place) = (self.browser.register().bytes(), self.place);
+        let reading = paper::step(bytes, row);
+        let expected = Outcome::of_paper(reading);
+        bench.tally.count(Asked::Browse, expected.answer);
+        same(format_args!("browsing {word} from row {place}"), &Outcome::of_step(shown, row), &expected)?;
+        bench.ship(format_args!("browsing {word} from row {place}"), || {
+            (Fields::call(letter, asked, bytes), Fields::default().reading(&reading))
+        })?;
         if expected.answer == 0 {
             self.place = row;
         }
         same(format_args!("browsing {word}, the place after"), &self.browser.row(), &self.place)
     }
 
-    fn jump(&mut self, row: usize, tally: &mut Tally) -> Result<(), String> {
+    fn jump(&mut self, row: usize, bench: &mut Bench) -> Result<(), String> {
         let shown = self.browser.to_row(row);
-        self.moved("to a row", row, shown, tally)
+        self.moved("to a row", row, shown, (shipped::BROWSE, row), bench)
     }
 
-    fn forward(&mut self, tally: &mut Tally) -> Result<(), String> {
+    fn forward(&mut self, bench: &mut Bench) -> Result<(), String> {
         let shown = self.browser.forward();
-        self.moved("forward", self.place + 1, shown, tally)
+        self.moved("forward", self.place + 1, shown, (shipped::FORWARD, self.place), bench)
     }
 
-    fn back(&mut self, tally: &mut Tally) -> Result<(), String> {
+    fn back(&mut self, bench: &mut Bench) -> Result<(), String> {
         let shown = self.browser.back();
-        self.moved("back", self.place.checked_sub(1).unwrap_or(NO_ROW), shown, tally)
+        self.moved("back", self.place.checked_sub(1).unwrap_or(NO_ROW), shown, (shipped::BACK, self.place), bench)
     }
 
     /// What it shows of the row that it stands on.
@@ -125,19 +152,19 @@ impl Walk<'_> {
 }
 
 /// A walk through the register: back from row 0, forward from the last row, rows past it, and some moves by chance.
-fn browse(register: Register, entries: usize, chance: &mut Chance, tally: &mut Tally) -> Result<(), String> {
+fn browse(register: Register, entries: usize, chance: &mut Chance, bench: &mut Bench) -> Result<(), String> {
     let mut walk = Walk { browser: register.browse(), place: 0 };
-    walk.back(tally)?;
-    walk.forward(tally)?;
-    walk.jump(entries, tally)?;
-    walk.forward(tally)?;
-    walk.back(tally)?;
+    walk.back(bench)?;
+    walk.forward(bench)?;
+    walk.jump(entries, bench)?;
+    walk.forward(bench)?;
+    walk.back(bench)?;
     for _ in 0..chance.below(6) {
         match chance.below(4) {
-            0 => walk.back(tally)?,
-            1 => walk.forward(tally)?,
-            2 => walk.jump(chance.below(entries + 1), tally)?,
-            _ => walk.jump(entries + 1 + chance.below(9000), tally)?,
+            0 => walk.back(bench)?,
+            1 => walk.forward(bench)?,
+            2 => walk.jump(chance.below(entries + 1), bench)?,
+            _ => walk.jump(entries + 1 + chance.below(9000), bench)?,
         }
     }
     walk.look()
@@ -161,6 +188,9 @@ fn print_both(bytes: &[u8], read: &Outcome, whole: bool, bench: &mut Bench) -> R
     same_bytes(format_args!("printing"), &bench.text[..printed], &expected)?;
     let beyond = bench.text[printed..end].iter().filter(|&&byte| byte != UNTOUCHED).count();
     same(format_args!("printing, bytes touched beyond"), &beyond, &0)?;
+    bench.ship(format_args!("printing"), || {
+        (Fields::call(shipped::PRINT, 0, bytes), Fields::default().bytes(&expected).number(0))
+    })?;
     if read.answer == 0 && bytes.len() < HEADER + ENTRY * STEPPED_WHOLE {
         lines::of_sheet(bytes, &expected)?;
     }

@@ -41,7 +41,7 @@ fn append_somewhere(case: &Case, mut filled: Filled, chance: &mut Chance, bench:
     }
     let said = (filled.bytes.len(), filled.station.settings);
     let header = filled.bytes[..filled.bytes.len().min(HEADER)].to_vec();
-    append_both(&mut filled, k, report, &mut bench.tally)
+    append_both(&mut filled, k, report, bench)
         .map_err(|difference| format!("{difference}\n    in (bytes, station's settings) {said:?}, header {header:?}"))
 }
 
@@ -101,6 +101,6 @@ fn start_somewhere(chance: &mut Chance, bench: &mut Bench) -> Result<(), String>
         _ => Timers::Middle.settings(chance),
     };
     let mut bytes = vec![chance.byte(); chance.below(HEADER + ENTRY)];
-    start_both(&mut bytes, settings, &mut bench.tally).map_err(|difference| format!("{difference}\n    of {settings:?}"))?;
+    start_both(&mut bytes, settings, bench).map_err(|difference| format!("{difference}\n    of {settings:?}"))?;
     made_by_both(settings, &mut bench.tally).map(|_| ())
 }

@@ -1,8 +1,10 @@
 //! Many cases on all the machine's cores, and the shortest that differs.
 
 use crate::chance::Chance;
+use crate::shipped::{Fields, Shipped};
 use crate::tally::Tally;
 use degvuurel::{SheetText, SHEET};
+use std::fmt;
 use std::panic::{catch_unwind, AssertUnwindSafe};
 use std::sync::atomic::{AtomicU64, Ordering};
 use std::sync::Mutex;
@@ -14,16 +16,31 @@ const ENOUGH: usize = 8;
 /// The cases that a thread takes at a time, unless there are so few that another thread would have none.
 const TAKEN_AT_ONCE: u64 = 64;
 
-/// What a thread keeps from case to case: room for a sheet, and its counts.
+/// What a thread keeps from case to case: room for a sheet, its counts, and the shipped code where that is asked too.
 pub struct Bench {
     pub text: Box<SheetText>,
     pub tally: Tally,
+    shipped: Option<Shipped>,
 }
 
 impl Bench {
     fn new() -> Bench {
         let text = vec![0; SHEET].into_boxed_slice().try_into().expect("the room has the length of a sheet");
-        Bench { text, tally: Tally::default() }
+        Bench { text, tally: Tally::default(), shipped: None }
+    }
+
+    /// From now on the shipped code is asked too.
+    pub fn with_shipped(&mut self) -> &mut Bench {
+        self.shipped.get_or_insert_with(Shipped::start);
+        self
+    }
+
+    /// The shipped code, where it is asked too, answers a call as the paper does.
+    pub fn ship(&mut self, what: fmt::Arguments, call: impl FnOnce() -> (Fields, Fields)) -> Result<(), String> {
+        let Some(shipped) = &mut self.shipped else { return Ok(()) };
+        let (call, expected) = call();
+        self.tally.shipped += 1;
+        shipped.answers(what, &call, &expected)
     }
 }
 

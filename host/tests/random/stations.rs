@@ -101,9 +101,9 @@ fn compare(station: &Station, reports: &[Report], bench: &mut Bench) -> Result<(
 fn append_there(station: &Station, reports: &[Report], bench: &mut Bench) -> Result<(), String> {
     let Some(&report) = reports.first() else { return Ok(()) };
     let mut bytes = vec![station.hold as u8; HEADER + 3 * ENTRY];
-    start_both(&mut bytes, station.settings, &mut bench.tally)?;
+    start_both(&mut bytes, station.settings, bench)?;
     let mut filled = Filled { bytes, station: *station };
-    append_both(&mut filled, usize::from(station.hold % 4), report, &mut bench.tally)
+    append_both(&mut filled, usize::from(station.hold % 4), report, bench)
 }
 
 /// Frees islands, restores detectors and clears the rest, while there is still a difference.

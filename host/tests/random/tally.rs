@@ -46,6 +46,7 @@ pub struct Tally {
     pub stations: u64,
     pub reports: u64,
     pub rows: u64,
+    pub shipped: u64,
 }
 
 impl Tally {
@@ -71,6 +72,7 @@ impl Tally {
         self.stations += other.stations;
         self.reports += other.reports;
         self.rows += other.rows;
+        self.shipped += other.shipped;
     }
 
     fn of_answer(&self, answer: usize) -> u64 {
@@ -95,16 +97,17 @@ impl Tally {
     /// The answers, 0 to 14, that were seen less often than they must be.
     pub fn rare_answers(&self, least: u64) -> Vec<String> {
         let answers = (0..ANSWERS).filter(|&answer| self.of_answer(answer) < least);
-        answers.map(|answer| format!("answer {answer}")).collect()
+        answers.map(|answer| format!("answer {answer} was seen less than {least} times")).collect()
     }
 
     /// The aspects that were shown less often, and the answers that something asked can give and gave less often.
     pub fn rare_by_what_was_asked(&self, possible: &Possible, least: u64) -> Vec<String> {
         let aspects = (0..ASPECTS).filter(|&aspect| self.aspects[aspect] < least);
-        let mut rare: Vec<String> = aspects.map(|aspect| format!("aspect {aspect}")).collect();
+        let mut rare: Vec<String> = aspects.map(|aspect| format!("aspect {aspect} was shown less than {least} times")).collect();
         for &(asked, answers) in possible {
             let few = answers.iter().filter(|&&answer| self.seen[asked as usize][usize::from(answer)] < least);
-            rare.extend(few.map(|answer| format!("answer {answer} to {}", TITLES[asked as usize])));
+            let title = TITLES[asked as usize];
+            rare.extend(few.map(|answer| format!("answer {answer} to {title} was seen less than {least} times")));
         }
         rare
     }
