@@ -16,8 +16,9 @@ static uint8_t text[DEGVUUREL_SHEET];
 static size_t taken;
 static size_t filled;
 
-/* What the room for a sheet holds before. No sheet has this byte. */
-enum { UNTOUCHED = 0xEE };
+/* What the room for a sheet holds before, which is a byte that no sheet has, and how many bytes are looked at after a sheet: to fill
+ * and look at all of them for each would take longer than the rest. */
+enum { UNTOUCHED = 0xEE, LOOKED_AT_BEYOND = 256 };
 
 static uint64_t take(int bytes) {
     uint64_t number = 0;
@@ -145,6 +146,14 @@ static void append(uint8_t *bytes, size_t length, size_t k) {
     give_bytes(bytes, length);
 }
 
+/* Fills the first bytes of the room for a sheet. */
+static void untouch(size_t length) {
+    size_t place;
+    for (place = 0; place < length; place++) {
+        text[place] = UNTOUCHED;
+    }
+}
+
 static void hand_back(const uint8_t *bytes, size_t length, size_t row) {
     const struct degvuurel_entry_place place = degvuurel_entry(bytes, length, row);
     give(degvuurel_entry_answer(bytes, length, row), 1);
@@ -155,16 +164,14 @@ static void hand_back(const uint8_t *bytes, size_t length, size_t row) {
 
 /* The text, and how many bytes after it were written to. */
 static void print(const uint8_t *bytes, size_t length) {
-    size_t place, printed, touched = 0;
-    for (place = 0; place < sizeof text; place++) {
-        text[place] = UNTOUCHED;
-    }
-    printed = degvuurel_print(bytes, length, text);
-    for (place = printed; place < sizeof text; place++) {
+    const size_t printed = degvuurel_print(bytes, length, text);
+    size_t place, touched = 0;
+    for (place = printed; place < sizeof text && place < printed + LOOKED_AT_BEYOND; place++) {
         touched += text[place] != UNTOUCHED;
     }
     give_bytes(text, printed);
     give(touched, 8);
+    untouch(printed);
 }
 
 /* A letter that is none is answered by nothing, which no call expects. */
@@ -212,6 +219,7 @@ static int sent(const uint8_t *bytes, size_t length) {
 }
 
 int main(void) {
+    untouch(sizeof text);
     while (got(asked, 8)) {
         size_t length;
         taken = 0;
