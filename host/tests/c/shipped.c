@@ -1,7 +1,7 @@
 /* Answers calls of the library, one after the other, so that a test on any processor can ask the archive as it is shipped, for
  * x86-64. A call on standard input is its length, a letter and what the function takes; an answer on standard output is its
  * length and what the function gives. Numbers are low byte first, and a struct is its fields, since the bytes between them are
- * anyone's. tests/random/shipped.rs is the other side. There are no headers of a C library, so two functions are declared here. */
+ * anyone's. tests/random/shipped.rs is the other side. There are no headers of a C library, so what is used of it is declared. */
 #include "degvuurel.h"
 
 long read(int file, void *bytes, size_t length);
@@ -16,8 +16,8 @@ static uint8_t text[DEGVUUREL_SHEET];
 static size_t taken;
 static size_t filled;
 
-/* What the room for a sheet holds before, which is a byte that no sheet has, and how many bytes are looked at after a sheet: to fill
- * and look at all of them for each would take longer than the rest. */
+/* What the room for a sheet holds before, which is a byte that no sheet has, and how many bytes are looked at after a sheet: to
+ * fill and look at all of them for each would take longer than the rest. */
 enum { UNTOUCHED = 0xEE, LOOKED_AT_BEYOND = 256 };
 
 static uint64_t take(int bytes) {
@@ -146,20 +146,20 @@ static void append(uint8_t *bytes, size_t length, size_t k) {
     give_bytes(bytes, length);
 }
 
-/* Fills the first bytes of the room for a sheet. */
-static void untouch(size_t length) {
-    size_t place;
-    for (place = 0; place < length; place++) {
-        text[place] = UNTOUCHED;
-    }
-}
-
 static void hand_back(const uint8_t *bytes, size_t length, size_t row) {
     const struct degvuurel_entry_place place = degvuurel_entry(bytes, length, row);
     give(degvuurel_entry_answer(bytes, length, row), 1);
     give(place.answer, 1);
     give(place.at, 8);
     give(place.length, 8);
+}
+
+/* Fills the first bytes of the room for a sheet. */
+static void untouch(size_t length) {
+    size_t place;
+    for (place = 0; place < length; place++) {
+        text[place] = UNTOUCHED;
+    }
 }
 
 /* The text, and how many bytes after it were written to. */

@@ -1,5 +1,6 @@
 //! The proved library and the independent implementation of document 01 side by side, over registers, damaged registers and
-//! stations by chance. Some registers, and damaged ones, go through the archive as it is shipped too, on any processor.
+//! stations by chance. Some registers, and damaged ones, go through the archive as it is shipped too, on any processor: that
+//! needs the kit, whose `rt` is on the PATH.
 //!
 //! `DEGVUUREL_SEED` is the seed, and `DEGVUUREL_REGISTERS` the number of registers; without them every run is the same. A part
 //! that differs prints the shortest case found. What was seen is counted, and each answer must be seen often enough.
