@@ -15,8 +15,9 @@ use Rattle.reports.proofs.Accepted.{after-any}
 use Rattle.rules.specs.Answers.{answerOf, stationAfter}
 use Rattle.rules.specs.Aspect.{aspectOf, greatestRisk}
 use Rattle.rules.specs.Heads.{communicationFailed, failedSounders, headOutputs, headsOf, powerFailed}
+use Rattle.rules.specs.Kinds.{Kind, clock, detectorFailed, detectorRestored, headCondition, islandFree, islandOccupied, kindOf, noKind, normalise}
 use Rattle.rules.specs.Outputs.{outputsOf}
-use Rattle.rules.specs.Reports.{Kind, acted, allOlder, clock, detectorFailed, detectorRestored, faultLatched, headCondition, holdLowered, holdSet, islandFree, islandOccupied, kindOf, noKind, normalise, tick, ticks}
+use Rattle.rules.specs.Reports.{acted, allOlder, faultLatched, holdLowered, holdSet, tick, ticks}
 use Rattle.rules.specs.Station.{live, settingsAnswer, withCondition, withTrack, withinLimits}
 use Rattle.rules.specs.Words.{_if_then_, _▷_}
 use Rattle.rules.specs.declared.Report.{Report}

@@ -19,9 +19,10 @@ use Rattle.reports.proofs.Taking.{after-accepted}
 use Rattle.rules.specs.Answers.{already, answerOf, blocked, namesHead, namesIsland, placeAnswer, stateAnswer, stationAfter}
 use Rattle.rules.specs.Aspect.{aspectOf, greatestRisk, presenceOf, present, someFresh}
 use Rattle.rules.specs.Heads.{headOutputs, headsOf}
+use Rattle.rules.specs.Kinds.{Kind, clock, detectorFailed, detectorRestored, headCondition, islandFree, islandOccupied, kindOf, noKind, normalise}
 use Rattle.rules.specs.Outputs.{outputsOf}
 use Rattle.rules.specs.Printer.{zonesOf}
-use Rattle.rules.specs.Reports.{Kind, acted, allOlder, clock, detectorFailed, detectorNow, detectorRestored, faultLatched, freeNow, headCondition, holdLowered, holdSet, islandFree, islandOccupied, kindOf, late, namedIsland, namedTrack, noKind, normalise, occupiedNow, olderTrack, tick, ticks, withIsland, withNamed}
+use Rattle.rules.specs.Reports.{acted, allOlder, detectorNow, faultLatched, freeNow, holdLowered, holdSet, late, namedIsland, namedTrack, occupiedNow, olderTrack, tick, ticks, withIsland, withNamed}
 use Rattle.rules.specs.Station.{beyond, freeTrack, islandAt, live, obstructed, settingsAnswer, someFailed, someOccupied, trackAt, withCondition, withFault, withHold, withTrack, withinLimits}
 use Rattle.rules.specs.Words.{any, count, _if_then_}
 use Rattle.rules.specs.declared.Island.{Island}

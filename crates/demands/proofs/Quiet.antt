@@ -20,7 +20,8 @@ use Rattle.reports.proofs.FiveIslands.{Five, five-take}
 use Rattle.reports.proofs.Taking.{after-accepted, meant}
 use Rattle.rules.specs.Answers.{answerOf, stationAfter}
 use Rattle.rules.specs.Aspect.{aspectOf, freshAdvance, freshNear, greatestRisk, someHeld}
-use Rattle.rules.specs.Reports.{acted, clock, headCondition, holdSet, kindOf, ticks}
+use Rattle.rules.specs.Kinds.{clock, headCondition, kindOf}
+use Rattle.rules.specs.Reports.{acted, holdSet, ticks}
 use Rattle.rules.specs.Station.{Zone, advance, crossing, isWarning, live, someOccupied, timer, warning, withCondition, withConditions, withHold, withinLimits}
 use Rattle.rules.specs.Words.{any, within, _if_then_}
 use Rattle.rules.specs.declared.Report.{Report}

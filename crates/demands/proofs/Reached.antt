@@ -13,7 +13,8 @@ use Rattle.reports.proofs.Accepted.{after-any}
 use Rattle.reports.proofs.Shape.{Shaped, shaped-fresh, shaped-named, shaped-older}
 use Rattle.rules.specs.Answers.{stationAfter}
 use Rattle.rules.specs.Aspect.{greatestRisk, present, someFresh}
-use Rattle.rules.specs.Reports.{Kind, acted, allOlder, clock, detectorFailed, detectorRestored, faultLatched, headCondition, holdLowered, holdSet, islandFree, islandOccupied, kindOf, noKind, normalise, tick, ticks, withNamed}
+use Rattle.rules.specs.Kinds.{Kind, clock, detectorFailed, detectorRestored, headCondition, islandFree, islandOccupied, kindOf, noKind, normalise}
+use Rattle.rules.specs.Reports.{acted, allOlder, faultLatched, holdLowered, holdSet, tick, ticks, withNamed}
 use Rattle.rules.specs.Station.{freeTrack, freshStation, withCondition, withFault, withTrack, withinLimits}
 use Rattle.rules.specs.Words.{any, count, within}
 use Rattle.rules.specs.declared.Island.{Island}

@@ -12,8 +12,8 @@ use lib.Dec.{eqb, ltb}
 use lib.ListN.{length, take, drop, getD, length-append, length-drop}
 use lib.Seq.{drop-at, drop-drop, getD-take, length-take-le, take-at, take-take}
 use Rattle.rules.specs.Layout.{answerIn, aspectIn, entryAt, entryOf, entryStart, header, reportIn, settingsIn}
-use Rattle.rules.specs.Register.{headAnswer, put}
-use Rattle.rules.specs.Words.{_if_then_}
+use Rattle.rules.specs.Register.{headAnswer}
+use Rattle.rules.specs.Words.{put, _if_then_}
 use Rattle.rules.specs.declared.Report.{Report}
 use Rattle.rules.specs.declared.Settings.{Settings}
 

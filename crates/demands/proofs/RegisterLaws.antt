@@ -18,9 +18,9 @@ use Rattle.reports.proofs.Taking.{after-refused}
 use Rattle.rules.specs.Answers.{answerOf, stationAfter}
 use Rattle.rules.specs.Aspect.{aspectOf}
 use Rattle.rules.specs.Layout.{entryAt, entryOf, entryStart, header}
-use Rattle.rules.specs.Register.{appendAnswer, appended, appendedBytes, newEntry, put, startAnswer, started, unfit}
+use Rattle.rules.specs.Register.{appendAnswer, appended, appendedBytes, newEntry, startAnswer, started, unfit}
 use Rattle.rules.specs.Station.{settingsAnswer}
-use Rattle.rules.specs.Words.{_if_then_, _▷_}
+use Rattle.rules.specs.Words.{put, _if_then_, _▷_}
 use Rattle.rules.specs.declared.Report.{Report}
 use Rattle.rules.specs.declared.Settings.{Settings}
 use Rattle.rules.specs.declared.Station.{Station}

@@ -14,11 +14,12 @@ use lib.ListN.{length}
 use Rattle.chains.proofs.Chains.{both, either, group-so}
 use Rattle.chains.proofs.Given.{Tests, each, every, first, given, none, testOf, _before_, _on_else_}
 use Rattle.demands.specs.Stated.{OfAppending, OfHandingBack, OfLimits, OfReading, OfRegister, OfReport, OfStarting, OfStepping, oneOf}
-use Rattle.reports.proofs.ByNumber.{is-known, not-blocked}
-use Rattle.rules.specs.Answers.{already, answerOf, blocked, formAnswer, known, namesHead, namesIsland, placeAnswer, stateAnswer, wrongFields}
+use Rattle.reports.proofs.ByNumber.{not-blocked}
+use Rattle.rules.specs.Answers.{already, answerOf, blocked, formAnswer, namesHead, namesIsland, placeAnswer, stateAnswer, wrongFields}
+use Rattle.rules.specs.Kinds.{kindOf}
 use Rattle.rules.specs.Layout.{entries, hasMark, settingsIn, versionIn}
 use Rattle.rules.specs.Register.{appendAnswer, appended, entryAnswer, firstWrong, full, headAnswer, lengthAnswer, readAnswer, readOf, readingOf, registerAnswer, startAnswer, stepAnswer, stepOf, unfit}
-use Rattle.rules.specs.Reports.{kindOf, namedIsland}
+use Rattle.rules.specs.Reports.{namedIsland}
 use Rattle.rules.specs.Siting.{advanceSited, messageGood, speedGood, tracksGood, warningSited}
 use Rattle.rules.specs.Station.{made, obstructed, settingsAnswer, withinLimits}
 use Rattle.rules.specs.Words.{within, _▷_}
@@ -40,7 +41,7 @@ abbrev report : Station → Report → Tests
 report s r =
     let kind = kindOf (r .kind) in
     limits (withinLimits (s .settings))
-    before (1 on not (known kind) else 2 on not (eqb (r .spare) 0) || wrongFields kind r else none)
+    before (1 on not (within 1 7 (r .kind)) else 2 on not (eqb (r .spare) 0) || wrongFields kind r else none)
     before (3 on namesIsland kind && leb (s .settings .tracks) (r .a) else
     5 on namesHead kind && ltb 1 (r .a) else
     4 on namesIsland kind && ltb 4 (r .b) else none)
@@ -60,7 +61,7 @@ unfolding answerOf settingsAnswer formAnswer placeAnswer stateAnswer
 stated-report s r =
     record {
       number = leb-true _ _ (each (λ n. leb n 8) (report s r) refl);
-      one = λ e. is-known (r .kind) ∙ not-true _ (given (report s r) 1 e);
+      one = λ e. not-true _ (given (report s r) 1 e);
       two = λ e. either _ _ (unequal _ _) (λ h. h) (given (report s r) 2 e);
       three = λ e. let h = both _ _ (given (report s r) 3 e) in (h .0, leb-true _ _ (h .1));
       four = λ e. let h = both _ _ (given (report s r) 4 e) in (h .0, ltb-true _ _ (h .1));

@@ -6,15 +6,16 @@ use mathlib.Core.Bool.{true, false}
 use mathlib.Core.List.{List, [], _∷_, _++_, map}
 use Rattle.demands.specs.Quiet.{Quiet, afterAll, clockGone, longEnough, settled}
 use Rattle.rules.specs.Aspect.{aspectOf}
+use Rattle.rules.specs.OfEachKind.{clock, condition, failed, freed, normalised, occupied, report, restored}
 use Rattle.rules.specs.Station.{withTracks}
 use Rattle.rules.specs.declared.Report.{Report}
 use Rattle.rules.specs.declared.Settings.{Settings}
 use Rattle.rules.specs.declared.Station.{Station}
 use Rattle.rules.specs.rows.HouseRows.{departing, leaving}
 use Rattle.rules.specs.rows.Machine.{ours}
-use Rattle.rules.specs.rows.Refusals.{chosen, condition, failed, fiveTracks, restored}
+use Rattle.rules.specs.rows.Refusals.{chosen, fiveTracks}
 use Rattle.rules.specs.rows.Row.{Row, digits, rows}
-use Rattle.rules.specs.rows.Table.{clock, freed, normalised, occupied, report, run}
+use Rattle.rules.specs.rows.Table.{run}
 
 -- Settings of two tracks (T1, T2, T3, T4, T5), all of them different. The longer is T5; T4 + T1; T4 + T2; T4 + T3.
 abbrev pub byT5 : Settings

@@ -8,9 +8,10 @@ use mathlib.Core.List.{List, [], _∷_}
 use lib.Dec.{eqb}
 use lib.ListN.{length}
 use Rattle.rules.specs.Answers.{already, answerOf, namesHead, namesIsland, wrongFields}
+use Rattle.rules.specs.Kinds.{kindOf}
 use Rattle.rules.specs.Layout.{entries, hasMark, settingsIn, versionIn}
 use Rattle.rules.specs.Register.{appended, entryAnswer, firstWrong, readOf, sameSettings, startAnswer, stepOf}
-use Rattle.rules.specs.Reports.{kindOf, namedIsland}
+use Rattle.rules.specs.Reports.{namedIsland}
 use Rattle.rules.specs.Station.{obstructed, withinLimits}
 use Rattle.rules.specs.Words.{any, within}
 use Rattle.rules.specs.declared.Report.{Report}

@@ -10,7 +10,8 @@ use lib.Dec.{leb, ltb}
 use Rattle.chains.proofs.Chains.{both-done, passed}
 use Rattle.reports.proofs.Taking.{after-accepted, after-refused}
 use Rattle.rules.specs.Answers.{already, answerOf, formAnswer, namesIsland, placeAnswer, stateAnswer, stationAfter}
-use Rattle.rules.specs.Reports.{Kind, acted, kindOf, namedIsland}
+use Rattle.rules.specs.Kinds.{Kind, kindOf}
+use Rattle.rules.specs.Reports.{acted, namedIsland}
 use Rattle.rules.specs.Station.{settingsAnswer}
 use Rattle.rules.specs.declared.Report.{Report}
 use Rattle.rules.specs.declared.Station.{Station}

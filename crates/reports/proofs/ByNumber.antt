@@ -2,12 +2,12 @@
 -- Assumes nothing.
 use Prim.Native.Nat.{ℕ, zero, suc, _<_}
 use native.Mathlib.Omega.{arith}
-use mathlib.Core.Path.{_≡_, refl, ap₂}
+use mathlib.Core.Path.{_≡_, refl}
 use mathlib.Core.Bool.{false, not, _&&_, _||_}
-use borrow.Author.Tests.{le-leb, lt-leb, ne-eqb}
-use lib.Dec.{eqb, leb}
-use Rattle.rules.specs.Answers.{already, blocked, known, namesHead, namesIsland, wrongFields}
-use Rattle.rules.specs.Reports.{kindOf, noKind}
+use borrow.Author.Tests.{ne-eqb}
+use lib.Dec.{eqb}
+use Rattle.rules.specs.Answers.{already, blocked, namesHead, namesIsland, wrongFields}
+use Rattle.rules.specs.Kinds.{kindOf, noKind}
 use Rattle.rules.specs.declared.Island.{Island}
 use Rattle.rules.specs.declared.Report.{Report}
 use Rattle.rules.specs.declared.Station.{Station}
@@ -29,12 +29,6 @@ by-number P a b c d e f g h more (suc (suc (suc (suc (suc (suc (suc (suc k))))))
 
 pub other : (k j : ℕ) → j < 8 → eqb (past k) j ≡ false
 other k j h = ne-eqb (past k) j (λ e. omega arith)
-
-pub is-known : (k : ℕ) → leb 1 k && leb k 7 ≡ known (kindOf k)
-unfolding kindOf
-is-known =
-    by-number (λ k. leb 1 k && leb k 7 ≡ known (kindOf k)) refl refl refl refl refl refl refl refl
-    (λ k. ap₂ _&&_ (le-leb 1 (past k) (omega arith)) (lt-leb (past k) 7 (omega arith)))
 
 pub names-an-island : (k : ℕ) → eqb k 1 || eqb k 2 || eqb k 4 || eqb k 5 ≡ namesIsland (kindOf k)
 unfolding kindOf

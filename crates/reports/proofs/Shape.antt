@@ -10,7 +10,8 @@ use lib.Seq.{length-front}
 use Rattle.reports.proofs.Accepted.{after-any}
 use Rattle.reports.proofs.FiveIslands.{Five, five-named, five-older}
 use Rattle.rules.specs.Answers.{stationAfter}
-use Rattle.rules.specs.Reports.{Kind, acted, allOlder, clock, detectorFailed, detectorRestored, faultLatched, headCondition, holdLowered, holdSet, islandFree, islandOccupied, kindOf, noKind, normalise, olderTrack, tick, ticks, withNamed}
+use Rattle.rules.specs.Kinds.{Kind, clock, detectorFailed, detectorRestored, headCondition, islandFree, islandOccupied, kindOf, noKind, normalise}
+use Rattle.rules.specs.Reports.{acted, allOlder, faultLatched, holdLowered, holdSet, olderTrack, tick, ticks, withNamed}
 use Rattle.rules.specs.Station.{freshStation, leastSettings, live, made, settingsAnswer, withCondition, withTrack, withinLimits}
 use Rattle.rules.specs.Words.{_if_then_}
 use Rattle.rules.specs.declared.Island.{Island}

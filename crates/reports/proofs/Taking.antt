@@ -7,7 +7,8 @@ use mathlib.Core.Bool.{Bool, cond}
 use borrow.Author.Tests.{eq-eqb, ne-eqb}
 use Rattle.chains.proofs.Chains.{group-below, test-below}
 use Rattle.rules.specs.Answers.{answerOf, formAnswer, placeAnswer, stateAnswer, stationAfter}
-use Rattle.rules.specs.Reports.{acted, kindOf, namedTrack, withIsland, withNamed}
+use Rattle.rules.specs.Kinds.{kindOf}
+use Rattle.rules.specs.Reports.{acted, namedTrack, withIsland, withNamed}
 use Rattle.rules.specs.Station.{settingsAnswer, trackAt, withTrack}
 use Rattle.rules.specs.declared.Island.{Island}
 use Rattle.rules.specs.declared.Report.{Report}

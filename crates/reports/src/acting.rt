@@ -1,6 +1,7 @@
 // Document 01, "Reports": what an accepted report does.
 ghost use mathlib.Core.Path.{_≡_};
-ghost use Rattle.rules.specs.Reports.{acted, detectorFailed, detectorRestored, headCondition, islandFree, islandOccupied, kindOf, normalise, withIsland};
+ghost use Rattle.rules.specs.Kinds.{detectorFailed, detectorRestored, headCondition, islandFree, islandOccupied, kindOf, normalise};
+ghost use Rattle.rules.specs.Reports.{acted, withIsland};
 ghost use Rattle.rules.specs.Station.{withTrack};
 use rules::CLOCK;
 use rules::DETECTOR_FAILED;

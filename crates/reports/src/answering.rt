@@ -1,7 +1,8 @@
 // Document 01, "The numbers it answers": the tests of a report, in their order.
 ghost use mathlib.Core.Path.{_≡_};
-ghost use Rattle.rules.specs.Answers.{already as Answers·already, answerOf, formAnswer, known as Answers·known, namesIsland, placeAnswer, stateAnswer, wrongFields};
-ghost use Rattle.rules.specs.Reports.{kindOf};
+ghost use Rattle.rules.specs.Answers.{already as Answers·already, answerOf, formAnswer, namesIsland, placeAnswer, stateAnswer, wrongFields};
+ghost use Rattle.rules.specs.Kinds.{kindOf};
+ghost use Rattle.rules.specs.Words.{within};
 use rules::ALREADY_SO;
 use rules::BAD_FIELD;
 use rules::CLOCK;
@@ -53,9 +54,9 @@ fn form_answer(report: Report) -> u8
 }
 
 fn known(kind: u8) -> bool
-    ensures { λ r. ⌜ r ≡ Answers·known (kindOf kind) ⌝ }
+    ensures { λ r. ⌜ r ≡ within 1 7 kind ⌝ }
 {
-    (1 <= kind) & (kind <= 7)
+    (ISLAND_OCCUPIED <= kind) & (kind <= NORMALISE)
 }
 
 fn wrong_fields(report: Report) -> bool

@@ -2,11 +2,12 @@
 use Rattle.rules.specs.Answers.{answerOf, formAnswer, placeAnswer, stateAnswer, stationAfter, taken}
 use Rattle.rules.specs.Aspect.{aspectOf, freshAdvance, freshNear, greatestRisk, presenceOf, present, someFresh, someHeld}
 use Rattle.rules.specs.Heads.{headOutputs, headsOf}
+use Rattle.rules.specs.Kinds.{kindOf}
 use Rattle.rules.specs.Layout.{entryAt, entryOf, header, reportIn, settingsIn}
 use Rattle.rules.specs.Outputs.{outputsOf}
 use Rattle.rules.specs.Printer.{decimal, lengthWritten, printed, refusalLine, rowLine, rowLines, sheetOf, title, written, zonesOf}
 use Rattle.rules.specs.Register.{after, appendAnswer, appended, appendedBytes, entryAnswer, firstWrong, handedBack, handedBackAt, headAnswer, lengthAnswer, readAnswer, readOf, readingOf, registerAnswer, startAnswer, started, stepAnswer, stepOf}
-use Rattle.rules.specs.Reports.{acted, allOlder, detectorNow, faultLatched, freeNow, holdLowered, holdSet, kindOf, late, leavingMark, occupiedNow, older, olderTrack, tick, ticks, withIsland}
+use Rattle.rules.specs.Reports.{acted, allOlder, detectorNow, faultLatched, freeNow, holdLowered, holdSet, late, leavingMark, occupiedNow, older, olderTrack, tick, ticks, withIsland}
 use Rattle.rules.specs.Siting.{advanceSited, warningSited}
 use Rattle.rules.specs.Station.{freshStation, made, obstructed, settingsAnswer, someFailed, someOccupied, trackAt, withCondition, withTrack, withinLimits}
 use Rattle.rules.specs.Words.{_if_then_, _▷_}

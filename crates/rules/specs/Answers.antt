@@ -3,9 +3,10 @@ use Prim.Native.Nat.{ℕ}
 use mathlib.Core.Bool.{Bool, true, false, cond, not, _&&_, _||_}
 use lib.Dec.{eqb, leb, ltb}
 use Rattle.rules.specs.Numbers.{alreadySo, badField, done, noSuchHead, noSuchIsland, noSuchKind, noSuchTrack, notClear}
-use Rattle.rules.specs.Reports.{Kind, acted, clock, detectorFailed, detectorRestored, headCondition, islandFree, islandOccupied, kindOf, namedIsland, noKind, normalise}
+use Rattle.rules.specs.Kinds.{Kind, clock, detectorFailed, detectorRestored, fields, headCondition, islandFree, islandOccupied, kindOf, noKind, normalise}
+use Rattle.rules.specs.Reports.{acted, namedIsland}
 use Rattle.rules.specs.Station.{obstructed, settingsAnswer}
-use Rattle.rules.specs.Words.{_if_then_, _▷_}
+use Rattle.rules.specs.Words.{within, _if_then_, _▷_}
 use Rattle.rules.specs.declared.Island.{Island}
 use Rattle.rules.specs.declared.Report.{Report}
 use Rattle.rules.specs.declared.Station.{Station}
@@ -13,48 +14,16 @@ use Rattle.rules.specs.declared.Taken.{Taken}
 
 -- ---- what is asked of a report, by its kind
 
--- kind is 1 to 7
-abbrev pub known : Kind → Bool
-known islandOccupied = true
-known islandFree = true
-known clock = true
-known detectorFailed = true
-known detectorRestored = true
-known headCondition = true
-known normalise = true
-known noKind = false
-
 -- a field shown as 0 is not, clock value 0, condition above 1023
 abbrev pub wrongFields : Kind → Report → Bool
-wrongFields islandOccupied r = not (eqb (r .value) 0)
-wrongFields islandFree r = not (eqb (r .value) 0)
-wrongFields clock r = not (eqb (r .a) 0) || not (eqb (r .b) 0) || eqb (r .value) 0
-wrongFields detectorFailed r = not (eqb (r .value) 0)
-wrongFields detectorRestored r = not (eqb (r .value) 0)
-wrongFields headCondition r = not (eqb (r .b) 0) || ltb 1023 (r .value)
-wrongFields normalise r = not (eqb (r .a) 0) || not (eqb (r .b) 0) || not (eqb (r .value) 0)
-wrongFields noKind r = false
+wrongFields k r = fields k .a .wrong (r .a) || fields k .b .wrong (r .b) || fields k .value .wrong (r .value)
 
 -- a is a track and b an island; or a is a head
 abbrev pub namesIsland : Kind → Bool
-namesIsland islandOccupied = true
-namesIsland islandFree = true
-namesIsland clock = false
-namesIsland detectorFailed = true
-namesIsland detectorRestored = true
-namesIsland headCondition = false
-namesIsland normalise = false
-namesIsland noKind = false
+namesIsland k = fields k .a .isTrack && fields k .b .isIsland
 
 abbrev pub namesHead : Kind → Bool
-namesHead islandOccupied = false
-namesHead islandFree = false
-namesHead clock = false
-namesHead detectorFailed = false
-namesHead detectorRestored = false
-namesHead headCondition = true
-namesHead normalise = false
-namesHead noKind = false
+namesHead k = fields k .a .isHead
 
 -- occupied, free, failed or not failed already
 abbrev pub already : Kind → Island → Bool
@@ -83,7 +52,7 @@ blocked noKind s = false
 -- 1, 2
 unfoldable pub formAnswer : Report → ℕ
 formAnswer r =
-    noSuchKind if not (known (kindOf (r .kind))) then
+    noSuchKind if not (within 1 7 (r .kind)) then
     badField if not (eqb (r .spare) 0) || wrongFields (kindOf (r .kind)) r then
     done
 

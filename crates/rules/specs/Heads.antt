@@ -1,10 +1,11 @@
 -- Document 01, "The heads".
-use Prim.Native.Nat.{ℕ, _+_, _/_, _%_, _^_}
+use Prim.Native.Nat.{ℕ, _/_, _%_, _^_}
 use mathlib.Core.Bool.{Bool, cond, not, _&&_, _||_}
 use mathlib.Core.List.{List, [], _∷_, map}
 use lib.Dec.{eqb, ltb}
 use Rattle.rules.specs.Aspect.{aspectOf}
 use Rattle.rules.specs.Outputs.{Column, NI, R+, RF, S1, S2, S3, S4, VF, VI, bits, columns, outputsOf, place}
+use Rattle.rules.specs.Words.{count}
 use Rattle.rules.specs.declared.Station.{Station}
 
 -- bit k of a number is set
@@ -22,12 +23,8 @@ powerFailed condition = bit condition 8
 abbrev pub communicationFailed : ℕ → Bool
 communicationFailed condition = bit condition 9
 
-abbrev pub howMany : List Bool → ℕ
-howMany [] = 0
-howMany (b ∷ bs) = cond b 1 0 + howMany bs
-
 abbrev pub failedSounders : ℕ → ℕ
-failedSounders condition = howMany (bit condition 4 ∷ bit condition 5 ∷ bit condition 6 ∷ bit condition 7 ∷ [])
+failedSounders condition = count (bit condition) (4 ∷ 5 ∷ 6 ∷ 7 ∷ [])
 
 -- Any failed lamp or board: the five lamp outputs 0, sounders kept (matrix AV4; extending AV4 to every single lamp is house). One failed
 -- sounder: that one silent.

@@ -2,6 +2,8 @@
 -- the condition of Aspect, and Register the answers of Answers.
 pub mod Words
 pub mod Station
+pub mod Kinds
+pub mod OfEachKind
 pub mod Reports
 pub mod Aspect
 pub mod Outputs

@@ -1,10 +1,11 @@
--- Document 01, "Reports": the kinds, marks, the clock, and what an accepted report does.
+-- Document 01, "Reports": marks, the clock, and what an accepted report does.
 use Prim.Native.Nat.{ℕ, zero, suc, _+_, _-_, min}
 use mathlib.Core.Bool.{Bool, true, false, cond, not, _&&_, _||_}
 use mathlib.Core.List.{[], _∷_, _++_, map}
 use lib.Dec.{eqb, leb, ltb}
 use lib.ListN.{getD, set}
 use Rattle.rules.specs.Aspect.{greatestRisk}
+use Rattle.rules.specs.Kinds.{Kind, clock, detectorFailed, detectorRestored, headCondition, islandFree, islandOccupied, noKind, normalise}
 use Rattle.rules.specs.Station.{Zone, advance, anyIsland, approaching, beyond, crossing, goingAway, isWarning, islandAt, live, trackAt, warning, withCondition, withFault, withHold, withTrack, withTracks, zones}
 use Rattle.rules.specs.Words.{any}
 use Rattle.rules.specs.declared.Island.{Island}
@@ -12,16 +13,6 @@ use Rattle.rules.specs.declared.Report.{Report}
 use Rattle.rules.specs.declared.Settings.{Settings}
 use Rattle.rules.specs.declared.Station.{Station}
 use Rattle.rules.specs.declared.Track.{Track}
-
--- ---- the table of kinds
-
--- Island occupied, island free, clock, detector failed, detector restored, head condition and normalise: kinds 1 to 7. Any other number is no kind.
-pub data Kind : Type 0 where
-  islandOccupied islandFree clock detectorFailed detectorRestored headCondition normalise noKind : Kind
-
-unfoldable pub kindOf : ℕ → Kind
-kindOf number =
-    getD (noKind ∷ islandOccupied ∷ islandFree ∷ clock ∷ detectorFailed ∷ detectorRestored ∷ headCondition ∷ normalise ∷ []) number noKind
 
 -- ---- an island is occupied, freed, or its detector fails or is restored
 

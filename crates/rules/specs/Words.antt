@@ -1,8 +1,9 @@
 -- Words that document 01 uses throughout: "some", "any", "at least two"; the first test that refuses; from a least to a most number.
-use Prim.Native.Nat.{ℕ, suc}
+use Prim.Native.Nat.{ℕ, suc, _+_}
 use mathlib.Core.Bool.{Bool, false, cond, _&&_, _||_}
-use mathlib.Core.List.{List, [], _∷_}
+use mathlib.Core.List.{List, [], _∷_, _++_}
 use lib.Dec.{eqb, leb}
+use lib.ListN.{drop, length, take}
 
 -- ---- of a list
 
@@ -23,6 +24,12 @@ module _ {A B : Type 0} where
   anyWith p [] ys = false
   anyWith p (x ∷ xs) [] = false
   anyWith p (x ∷ xs) (y ∷ ys) = p x y || anyWith p xs ys
+
+-- ---- of bytes
+
+-- b with these bytes from a place on, and no other byte touched
+abbrev pub put : ℕ → List ℕ → List ℕ → List ℕ
+put at bytes b = take at b ++ (bytes ++ drop (at + length bytes) b)
 
 -- ---- tests in an order
 

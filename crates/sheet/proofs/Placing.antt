@@ -9,7 +9,7 @@ use lib.Seq.{drop-append-add, drop-drop, length-take-le, take-append-seam}
 use borrow.Author.Tests.{le-leb, lt-leb}
 use Rattle.io.specs.Counts.{Counts}
 use Rattle.rules.specs.Printer.{fits, lengthWritten, written}
-use Rattle.rules.specs.Register.{put}
+use Rattle.rules.specs.Words.{put}
 
 -- b with a text at its start
 abbrev pub begun : List ℕ → List ℕ → List ℕ

@@ -5,7 +5,7 @@ ghost use Prim.Native.Nat.{_+_, _≤_};
 ghost use lib.ListN.{length, take};
 ghost use Rattle.io.specs.Counts.{Counts};
 ghost use Rattle.rules.specs.Printer.{decimal, lengthWritten, lineFeed, written};
-ghost use Rattle.rules.specs.Register.{put as Register·put};
+ghost use Rattle.rules.specs.Words.{put as Register·put};
 
 // Puts a number's decimal digits at the start of text, and answers how many there are.
 pub(crate) fn number_text(number: u64, text: &mut [u8; 20]) -> usize

@@ -10,8 +10,9 @@ use lib.Count.{ones}
 use lib.Dec.{eqb, ltb}
 use lib.ListN.{take, drop, replicate}
 use borrow.Author.Tests.{eqb-true, le-ltb, lt-ltb, ltb-false, ltb-true}
-use Rattle.rules.specs.Heads.{bit, communicationFailed, failedSounders, headOutputs, howMany, lampFailed, out, powerFailed, those}
+use Rattle.rules.specs.Heads.{bit, communicationFailed, failedSounders, headOutputs, lampFailed, out, powerFailed, those}
 use Rattle.rules.specs.Outputs.{Column, bits, columns, place}
+use Rattle.rules.specs.Words.{count}
 use Rattle.signal.proofs.Digits.{digits, field, low, value}
 use Rattle.signal.proofs.Table.{atList}
 
@@ -51,7 +52,7 @@ heard sounders failed = bitAnd sounders (15 - failed)
 
 -- the tests of the three, over both fields' bits, the first field's first
 dark-right : List Bool → Bool
-dark-right bs = Bool·beq (dark 1 (value (take 2 bs)) (value (drop 2 bs))) (any false (take 2 bs) || ltb 1 (howMany (drop 2 bs)))
+dark-right bs = Bool·beq (dark 1 (value (take 2 bs)) (value (drop 2 bs))) (any false (take 2 bs) || ltb 1 (count (λ b. b) (drop 2 bs)))
 
 lit-right : List Bool → Bool
 lit-right bs = eqb (lit (value (take 5 bs)) (value (drop 5 bs))) (kept 0 (take 5 bs) (replicate 5 (any false (drop 5 bs))))

@@ -5,6 +5,7 @@ use mathlib.Core.List.{List, [], _∷_, _++_, map}
 use Rattle.rules.specs.Answers.{afterAnswer, answerOf, stationAfter}
 use Rattle.rules.specs.Aspect.{presenceOf}
 use Rattle.rules.specs.Heads.{headsOf}
+use Rattle.rules.specs.OfEachKind.{clock, condition, failed, freed, normalised, occupied, report, restored}
 use Rattle.rules.specs.Printer.{zonesOf}
 use Rattle.rules.specs.Register.{readOf, startAnswer}
 use Rattle.rules.specs.Reports.{withIsland}
@@ -14,12 +15,12 @@ use Rattle.rules.specs.declared.Report.{Report}
 use Rattle.rules.specs.declared.Station.{Station}
 use Rattle.rules.specs.rows.HouseRows.{departing, leaving, shown, trainGone, unheld}
 use Rattle.rules.specs.rows.Machine.{ours}
-use Rattle.rules.specs.rows.Refusals.{answerAfter, chosen, condition, failed, fiveTracks, making, restored, shortT5}
+use Rattle.rules.specs.rows.Refusals.{answerAfter, chosen, fiveTracks, making, shortT5}
 use Rattle.rules.specs.rows.RegisterRefusals.{other, tooMany}
 use Rattle.rules.specs.rows.RegisterRows.{said, stationTold}
 use Rattle.rules.specs.rows.Row.{Row, digits, each, rows, together}
 use Rattle.rules.specs.rows.StationRows.{aspects, fiveIslands, handed, told, toldAfter}
-use Rattle.rules.specs.rows.Table.{c2, c4, c7, c9, clock, freed, normalised, occupied, report, run, seconds, settings}
+use Rattle.rules.specs.rows.Table.{c2, c4, c7, c9, run, seconds, settings}
 
 -- C2 with a detector failed, and no fault all the same: no run reaches it
 abbrev pub failedUnlatched : Station

@@ -6,6 +6,7 @@ use mathlib.Core.List.{List, [], _∷_, _++_, map}
 use Rattle.rules.specs.Answers.{stationAfter}
 use Rattle.rules.specs.Aspect.{presenceOf}
 use Rattle.rules.specs.Heads.{headOutputs, headsOf}
+use Rattle.rules.specs.OfEachKind.{clock, condition, failed, freed, normalised, occupied, restored}
 use Rattle.rules.specs.Outputs.{outputsOf}
 use Rattle.rules.specs.Printer.{zonesOf}
 use Rattle.rules.specs.Reports.{older, withIsland}
@@ -14,9 +15,9 @@ use Rattle.rules.specs.declared.Island.{Island}
 use Rattle.rules.specs.declared.Report.{Report}
 use Rattle.rules.specs.declared.Station.{Station}
 use Rattle.rules.specs.rows.Machine.{ours}
-use Rattle.rules.specs.rows.Refusals.{answerAfter, condition, failed, fiveTracks, restored}
+use Rattle.rules.specs.rows.Refusals.{answerAfter, fiveTracks}
 use Rattle.rules.specs.rows.Row.{Row, digits, row, rows}
-use Rattle.rules.specs.rows.Table.{c1, c2, c3, c4, c7, c9, clock, freed, normalised, occupied, outputs, run, settings}
+use Rattle.rules.specs.rows.Table.{c1, c2, c3, c4, c7, c9, outputs, run, settings}
 
 -- ours after these reports, from a normalised station; or from one of another T4
 abbrev pub shown : List Report → ℕ

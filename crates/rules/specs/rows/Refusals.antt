@@ -5,6 +5,7 @@ use mathlib.Core.List.{List, [], _∷_, _++_, map}
 use Rattle.rules.specs.Answers.{answerOf}
 use Rattle.rules.specs.Aspect.{aspectOf}
 use Rattle.rules.specs.Heads.{headsOf}
+use Rattle.rules.specs.OfEachKind.{clock, condition, failed, freed, normalised, occupied, report, restored}
 use Rattle.rules.specs.Siting.{advanceSited, warningSited}
 use Rattle.rules.specs.Station.{freshStation, made, withFault}
 use Rattle.rules.specs.declared.Report.{Report}
@@ -13,17 +14,7 @@ use Rattle.rules.specs.declared.Sited.{Sited}
 use Rattle.rules.specs.declared.Station.{Station}
 use Rattle.rules.specs.rows.Machine.{ours}
 use Rattle.rules.specs.rows.Row.{Row, each, row}
-use Rattle.rules.specs.rows.Table.{c2, clock, freed, normalised, occupied, report, run, seconds}
-
--- the reports that C1 to C14 do without
-abbrev pub failed : ℕ → ℕ → Report
-failed track island = report 4 track island 0 0
-
-abbrev pub restored : ℕ → ℕ → Report
-restored track island = report 5 track island 0 0
-
-abbrev pub condition : ℕ → ℕ → Report
-condition head value = report 6 head 0 0 value
+use Rattle.rules.specs.rows.Table.{c2, run, seconds}
 
 -- a report of each kind, with nothing wrong in it
 abbrev pub wellFormed : List Report

@@ -3,6 +3,7 @@
 use Prim.Native.Nat.{ℕ, suc}
 use mathlib.Core.List.{List, [], _∷_, _++_, map}
 use lib.ListN.{set, take}
+use Rattle.rules.specs.OfEachKind.{occupied, report}
 use Rattle.rules.specs.Register.{appended, entryAnswer, handedBack, handedBackAt, readOf, startAnswer, stepOf}
 use Rattle.rules.specs.declared.Reading.{Reading}
 use Rattle.rules.specs.declared.Report.{Report}
@@ -11,7 +12,7 @@ use Rattle.rules.specs.rows.Machine.{ours}
 use Rattle.rules.specs.rows.Refusals.{chosen, handedIn}
 use Rattle.rules.specs.rows.RegisterRows.{approachingTold, leastTold, manyHeader, manySettings, nines, normalTold, said, stationTold, workedHeader, zeros}
 use Rattle.rules.specs.rows.Row.{Row, allRows, each, rows, together}
-use Rattle.rules.specs.rows.Table.{c2, occupied, report}
+use Rattle.rules.specs.rows.Table.{c2}
 
 -- ---- registers
 

@@ -6,6 +6,7 @@ use mathlib.Core.List.{List, [], _∷_, _++_, map}
 use lib.ListN.{drop, replicate, set, take}
 use Rattle.rules.specs.Aspect.{aspectOf}
 use Rattle.rules.specs.Layout.{entryOf, header, reportIn, settingsIn}
+use Rattle.rules.specs.OfEachKind.{clock, condition, normalised, occupied, report}
 use Rattle.rules.specs.Register.{appended, appendedBytes, entryAnswer, handedBack, handedBackAt, readOf, startAnswer, started, stepOf}
 use Rattle.rules.specs.declared.Reading.{Reading}
 use Rattle.rules.specs.declared.Report.{Report}
@@ -13,9 +14,9 @@ use Rattle.rules.specs.declared.Settings.{Settings}
 use Rattle.rules.specs.declared.Station.{Station}
 use Rattle.rules.specs.declared.Track.{Track}
 use Rattle.rules.specs.rows.Machine.{ours}
-use Rattle.rules.specs.rows.Refusals.{chosen, condition, fiveTracks}
+use Rattle.rules.specs.rows.Refusals.{chosen, fiveTracks}
 use Rattle.rules.specs.rows.Row.{Row, allRows, digits, rows, together}
-use Rattle.rules.specs.rows.Table.{c1, c2, clock, normalised, occupied, report, run, settings}
+use Rattle.rules.specs.rows.Table.{c1, c2, run, settings}
 
 -- ---- what is compared, in numbers
 

@@ -6,6 +6,7 @@ use mathlib.Core.List.{List, [], _∷_, _++_, map}
 use Rattle.rules.specs.Answers.{answerOf, stationAfter, taken}
 use Rattle.rules.specs.Aspect.{presenceOf}
 use Rattle.rules.specs.Heads.{headOutputs}
+use Rattle.rules.specs.OfEachKind.{clock, condition, failed, freed, normalised, occupied, report, restored}
 use Rattle.rules.specs.Printer.{zonesOf}
 use Rattle.rules.specs.Reports.{withIsland}
 use Rattle.rules.specs.Station.{islandAt, trackAt, withFault, withHold, withTrack, withTracks}
@@ -14,10 +15,10 @@ use Rattle.rules.specs.declared.Report.{Report}
 use Rattle.rules.specs.declared.Station.{Station}
 use Rattle.rules.specs.rows.HouseRows.{departing, leaving, shown, unheld}
 use Rattle.rules.specs.rows.Machine.{ours}
-use Rattle.rules.specs.rows.Refusals.{answerAfter, chosen, condition, failed, fiveTracks, restored}
+use Rattle.rules.specs.rows.Refusals.{answerAfter, chosen, fiveTracks}
 use Rattle.rules.specs.rows.RegisterRows.{settingsTold}
 use Rattle.rules.specs.rows.Row.{Row, digits, each, rows}
-use Rattle.rules.specs.rows.Table.{c1, c2, c3, c7, c9, clock, freed, normalised, occupied, outputs, report, run, settings}
+use Rattle.rules.specs.rows.Table.{c1, c2, c3, c7, c9, outputs, run, settings}
 
 -- short timers 3, 5, 4 and T5 = 9: a normalised station of so many tracks and of this T4, after these reports; its aspect with T4 = 0
 abbrev pub short : ℕ → ℕ → List Report → Station

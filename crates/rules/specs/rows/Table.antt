@@ -2,6 +2,7 @@
 use Prim.Native.Nat.{ℕ}
 use mathlib.Core.List.{List, [], _∷_}
 use Rattle.rules.specs.Heads.{headOutputs}
+use Rattle.rules.specs.OfEachKind.{clock, freed, normalised, occupied}
 use Rattle.rules.specs.Outputs.{outputsOf}
 use Rattle.rules.specs.Siting.{advanceSited, warningSited}
 use Rattle.rules.specs.declared.Report.{Report}
@@ -9,22 +10,6 @@ use Rattle.rules.specs.declared.Seconds.{Seconds}
 use Rattle.rules.specs.declared.Settings.{Settings}
 use Rattle.rules.specs.rows.Machine.{Machine}
 use Rattle.rules.specs.rows.Row.{Row, row}
-
--- A report is kind, a, b, spare and a value.
-abbrev pub report : ℕ → ℕ → ℕ → ℕ → ℕ → Report
-report kind a b spare value = record { kind = kind; a = a; b = b; spare = spare; value = value }
-
-abbrev pub occupied : ℕ → ℕ → Report
-occupied track island = report 1 track island 0 0
-
-abbrev pub freed : ℕ → ℕ → Report
-freed track island = report 2 track island 0 0
-
-abbrev pub clock : ℕ → Report
-clock ticks = report 3 0 0 0 ticks
-
-abbrev pub normalised : Report
-normalised = report 7 0 0 0 0
 
 -- Same settings unless said: 2 tracks, 300, 300, 300, 0, 600. Only T4 is said, at C9.
 abbrev pub settings : ℕ → Settings

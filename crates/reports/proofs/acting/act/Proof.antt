@@ -4,7 +4,8 @@ use mathlib.Core.Path.{sym, ap, _∙_}
 use Rattle.reports.proofs.ByNumber.{no-kind}
 use Rattle.reports.proofs.Taking.{meant}
 use Rattle.reports.proofs.acting.act.Statement.{statement}
-use Rattle.rules.specs.Reports.{Kind, acted, kindOf}
+use Rattle.rules.specs.Kinds.{Kind, kindOf}
+use Rattle.rules.specs.Reports.{acted}
 use borrow.Author.Needs.{needs}
 use Rattle.reports.proofs.acting.act.Tie as tie
 

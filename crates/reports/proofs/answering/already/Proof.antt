@@ -5,7 +5,7 @@ use Prim.Native.Nat.{ℕ}
 use Rattle.reports.proofs.ByNumber.{never-already}
 use Rattle.reports.proofs.answering.already.Statement.{statement}
 use Rattle.rules.specs.Answers.{already}
-use Rattle.rules.specs.Reports.{kindOf}
+use Rattle.rules.specs.Kinds.{kindOf}
 use Rattle.reports.proofs.answering.already.Tie as tie
 
 returns : tie.Need-returns

@@ -7,7 +7,8 @@ use Rattle.chains.proofs.Chains.{passes, refuses}
 use Rattle.reports.proofs.ByNumber.{not-blocked}
 use Rattle.reports.proofs.answering.state_answer.Statement.{statement}
 use Rattle.rules.specs.Answers.{already, blocked, stateAnswer}
-use Rattle.rules.specs.Reports.{kindOf, namedIsland}
+use Rattle.rules.specs.Kinds.{kindOf}
+use Rattle.rules.specs.Reports.{namedIsland}
 use Rattle.rules.specs.Station.{islandAt}
 use Rattle.rules.specs.declared.Track.{Track}
 use borrow.Author.Needs.{needs}

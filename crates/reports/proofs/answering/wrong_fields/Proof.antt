@@ -7,7 +7,7 @@ use Prim.Native.Nat.{ℕ}
 use Rattle.reports.proofs.ByNumber.{value-alone}
 use Rattle.reports.proofs.answering.wrong_fields.Statement.{statement}
 use Rattle.rules.specs.Answers.{wrongFields}
-use Rattle.rules.specs.Reports.{kindOf}
+use Rattle.rules.specs.Kinds.{kindOf}
 use borrow.Author.Needs.{needs}
 use Rattle.reports.proofs.answering.wrong_fields.Tie as tie
 
