@@ -4,11 +4,11 @@ use crate::filling::Filling;
 use crate::filling::with;
 
 pub(crate) fn occupied(register: &mut Buffer, filling: Filling, track: u8, island: u8) -> Filling {
-    with(register, filling, 1, track, island, 0)
+    with(register, filling, reports::occupied(track, island))
 }
 
 pub(crate) fn freed(register: &mut Buffer, filling: Filling, track: u8, island: u8) -> Filling {
-    with(register, filling, 2, track, island, 0)
+    with(register, filling, reports::freed(track, island))
 }
 
 // A train moves on: it occupies the next island before it frees the last.
@@ -24,21 +24,21 @@ pub(crate) fn moved(
 }
 
 pub(crate) fn clock(register: &mut Buffer, filling: Filling, ticks: u16) -> Filling {
-    with(register, filling, 3, 0, 0, ticks)
+    with(register, filling, reports::clock(ticks))
 }
 
 pub(crate) fn failed(register: &mut Buffer, filling: Filling, track: u8, island: u8) -> Filling {
-    with(register, filling, 4, track, island, 0)
+    with(register, filling, reports::failed(track, island))
 }
 
 pub(crate) fn restored(register: &mut Buffer, filling: Filling, track: u8, island: u8) -> Filling {
-    with(register, filling, 5, track, island, 0)
+    with(register, filling, reports::restored(track, island))
 }
 
 pub(crate) fn condition(register: &mut Buffer, filling: Filling, head: u8, value: u16) -> Filling {
-    with(register, filling, 6, head, 0, value)
+    with(register, filling, reports::condition(head, value))
 }
 
 pub(crate) fn normalise(register: &mut Buffer, filling: Filling) -> Filling {
-    with(register, filling, 7, 0, 0, 0)
+    with(register, filling, reports::normalise())
 }

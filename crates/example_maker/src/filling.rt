@@ -36,22 +36,8 @@ pub(crate) fn started(register: &mut Buffer, settings: Settings) -> Filling {
     Filling { station, k: 0 }
 }
 
-// With one report more: its kind, a, b and value. One that is refused by 1 to 7 is an entry too.
-pub(crate) fn with(
-    register: &mut Buffer,
-    filling: Filling,
-    kind: u8,
-    a: u8,
-    b: u8,
-    value: u16,
-) -> Filling {
-    let report = Report {
-        kind,
-        a,
-        b,
-        spare: 0,
-        value,
-    };
+// With one report more. One that is refused by 1 to 7 is an entry too.
+pub(crate) fn with(register: &mut Buffer, filling: Filling, report: Report) -> Filling {
     let k = filling.k;
     let taken = register::append(register, k as usize, filling.station, report);
     let answer = taken.answer;

@@ -24,7 +24,7 @@ pub(crate) fn make(register: &mut Buffer) {
 // 1, no such kind, and 2, a clock of no ticks.
 fn forms(register: &mut Buffer, fresh: Filling) -> Filling {
     let clear = normalise(register, fresh);
-    let no_kind = with(register, clear, 8, 0, 0, 0);
+    let no_kind = with(register, clear, reports::report(8, 0, 0, 0, 0));
     let train = occupied(register, no_kind, 0, 4);
     let no_ticks = clock(register, train, 0);
     clock(register, no_ticks, 100)

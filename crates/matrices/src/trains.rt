@@ -23,7 +23,7 @@ const T1: u16 = 300;
 
 // At rest: no train anywhere, and the fault of the fresh station unlatched by a normalise.
 pub(crate) fn at_rest() -> Taken {
-    taken(fresh(), 7, 0, 0, 0)
+    taken(fresh(), reports::normalise())
 }
 
 // Two tracks, for the matrices with two trains. T4 = 0 gives the five matrices.
@@ -41,17 +41,17 @@ fn fresh() -> Station {
 
 // The OTRO TREN board of one head fails: bit 3 of its condition.
 pub(crate) fn board_fails(before: Taken) -> Taken {
-    taken(before.station, 6, FAILED_HEAD, 0, 8)
+    taken(before.station, reports::condition(FAILED_HEAD, 8))
 }
 
 // A train's first axle enters the island.
 pub(crate) fn enters(before: Taken, track: u8, island: u8) -> Taken {
-    taken(before.station, 1, track, island, 0)
+    taken(before.station, reports::occupied(track, island))
 }
 
 // A train's last axle leaves the island.
 pub(crate) fn leaves(before: Taken, track: u8, island: u8) -> Taken {
-    taken(before.station, 2, track, island, 0)
+    taken(before.station, reports::freed(track, island))
 }
 
 // A train goes on to the next island: its first axle enters that one, then its last leaves this one.
@@ -68,18 +68,11 @@ pub(crate) fn crosses(before: Taken, track: u8, this: u8, other: u8) -> Taken {
 // Time goes by and no train moves. A tick over T1, so that the time is greater, as the matrices say,
 // and at least T1, as document 01 says.
 pub(crate) fn stands(before: Taken) -> Taken {
-    taken(before.station, 3, 0, 0, T1 + 1)
+    taken(before.station, reports::clock(T1 + 1))
 }
 
 // A report refused on the way shows in the output.
-fn taken(station: Station, kind: u8, a: u8, b: u8, value: u16) -> Taken {
-    let report = Report {
-        kind,
-        a,
-        b,
-        spare: 0,
-        value,
-    };
+fn taken(station: Station, report: Report) -> Taken {
     let taken = reports::take(station, report);
     if taken.answer != rules::DONE {
         printing::refused();

@@ -2,15 +2,15 @@
 // on both tracks and beyond them, ages, a hold running, a detector failed, both heads in a condition.
 use crate::given::after;
 use crate::given::chosen;
-use crate::given::clock;
-use crate::given::condition;
-use crate::given::failed;
-use crate::given::normalise;
-use crate::given::occupied;
-use crate::given::report;
 use crate::printing::end;
 use crate::printing::group;
 use crate::refusing::answer_of;
+use reports::clock;
+use reports::condition;
+use reports::failed;
+use reports::normalise;
+use reports::occupied;
+use reports::report;
 use rules::Station;
 
 // A report refused by each of 1 to 7.

@@ -1,10 +1,17 @@
 // 1 and 2: what is wrong with a report by itself.
-use crate::given::clock;
-use crate::given::condition;
-use crate::given::report;
 use crate::printing::end;
 use crate::printing::group;
 use crate::refusing::answer;
+use reports::clock;
+use reports::condition;
+use reports::report;
+use rules::CLOCK;
+use rules::DETECTOR_FAILED;
+use rules::DETECTOR_RESTORED;
+use rules::HEAD_CONDITION;
+use rules::ISLAND_FREE;
+use rules::ISLAND_OCCUPIED;
+use rules::NORMALISE;
 
 pub(crate) fn lines() {
     unknown_kinds();
@@ -29,53 +36,53 @@ fn unknown_kinds() {
 // 2: spare not 0, on kinds 1 to 4,
 fn spares_to_four() {
     group(2);
-    answer(report(1, 0, 3, 1, 0));
-    answer(report(2, 0, 3, 1, 0));
-    answer(report(3, 0, 0, 1, 1));
-    answer(report(4, 0, 3, 1, 0));
+    answer(report(ISLAND_OCCUPIED, 0, 3, 1, 0));
+    answer(report(ISLAND_FREE, 0, 3, 1, 0));
+    answer(report(CLOCK, 0, 0, 1, 1));
+    answer(report(DETECTOR_FAILED, 0, 3, 1, 0));
     end();
 }
 
 // and on kinds 5 to 7,
 fn spares_from_five() {
     group(3);
-    answer(report(5, 0, 3, 1, 0));
-    answer(report(6, 0, 0, 1, 8));
-    answer(report(7, 0, 0, 1, 0));
+    answer(report(DETECTOR_RESTORED, 0, 3, 1, 0));
+    answer(report(HEAD_CONDITION, 0, 0, 1, 8));
+    answer(report(NORMALISE, 0, 0, 1, 0));
     end();
 }
 
 // a field shown as 0 is not: the value on kinds 1, 2, 4 and 5,
 fn island_fields() {
     group(4);
-    answer(report(1, 0, 3, 0, 1));
-    answer(report(2, 0, 3, 0, 1));
-    answer(report(4, 0, 3, 0, 1));
-    answer(report(5, 0, 3, 0, 1));
+    answer(report(ISLAND_OCCUPIED, 0, 3, 0, 1));
+    answer(report(ISLAND_FREE, 0, 3, 0, 1));
+    answer(report(DETECTOR_FAILED, 0, 3, 0, 1));
+    answer(report(DETECTOR_RESTORED, 0, 3, 0, 1));
     end();
 }
 
 // a and b on a clock report,
 fn clock_fields() {
     group(5);
-    answer(report(3, 1, 0, 0, 1));
-    answer(report(3, 0, 1, 0, 1));
+    answer(report(CLOCK, 1, 0, 0, 1));
+    answer(report(CLOCK, 0, 1, 0, 1));
     end();
 }
 
 // b on a head condition,
 fn condition_fields() {
     group(6);
-    answer(report(6, 0, 1, 0, 8));
+    answer(report(HEAD_CONDITION, 0, 1, 0, 8));
     end();
 }
 
 // a, b and the value on a normalise,
 fn normalise_fields() {
     group(7);
-    answer(report(7, 1, 0, 0, 0));
-    answer(report(7, 0, 1, 0, 0));
-    answer(report(7, 0, 0, 0, 1));
+    answer(report(NORMALISE, 1, 0, 0, 0));
+    answer(report(NORMALISE, 0, 1, 0, 0));
+    answer(report(NORMALISE, 0, 0, 0, 1));
     end();
 }
 

@@ -1,5 +1,6 @@
 // The settings, reports and stations that the groups are made of.
 use libc::STDOUT_FILENO;
+use reports::normalise;
 use rules::Island;
 use rules::Report;
 use rules::Settings;
@@ -16,45 +17,6 @@ pub(crate) fn chosen(tracks: u8, t1: u16, t2: u16, t3: u16, t4: u16, t5: u16) ->
         t4,
         t5,
     }
-}
-
-pub(crate) fn report(kind: u8, a: u8, b: u8, spare: u8, value: u16) -> Report {
-    Report {
-        kind,
-        a,
-        b,
-        spare,
-        value,
-    }
-}
-
-// The reports with nothing wrong in them by themselves.
-pub(crate) fn occupied(track: u8, island: u8) -> Report {
-    report(1, track, island, 0, 0)
-}
-
-pub(crate) fn freed(track: u8, island: u8) -> Report {
-    report(2, track, island, 0, 0)
-}
-
-pub(crate) fn clock(ticks: u16) -> Report {
-    report(3, 0, 0, 0, ticks)
-}
-
-pub(crate) fn failed(track: u8, island: u8) -> Report {
-    report(4, track, island, 0, 0)
-}
-
-pub(crate) fn restored(track: u8, island: u8) -> Report {
-    report(5, track, island, 0, 0)
-}
-
-pub(crate) fn condition(head: u8, value: u16) -> Report {
-    report(6, head, 0, 0, value)
-}
-
-pub(crate) fn normalise() -> Report {
-    report(7, 0, 0, 0, 0)
 }
 
 // A normalised station: 2 tracks, 300, 300, 300, 0, 600.

@@ -1,8 +1,5 @@
 // 8: a station handed in has a setting outside its limits.
-use crate::given::clock;
-use crate::given::condition;
 use crate::given::five_tracks;
-use crate::given::normalise;
 use crate::given::short_t5;
 use crate::printing::end;
 use crate::printing::group;
@@ -10,6 +7,9 @@ use crate::printing::number;
 use crate::refusing::answer_of;
 use crate::refusing::detector_answers;
 use crate::refusing::train_answers;
+use reports::clock;
+use reports::condition;
+use reports::normalise;
 use rules::Station;
 
 pub(crate) fn lines() {

@@ -1,11 +1,12 @@
 // Order: a report is tested for 8, 1, 2, then 3 or 5, 4, and 6 or 7.
 use crate::given::five_tracks;
-use crate::given::occupied;
-use crate::given::report;
 use crate::printing::end;
 use crate::printing::group;
 use crate::refusing::answer;
 use crate::refusing::answer_of;
+use reports::occupied;
+use reports::report;
+use rules::ISLAND_OCCUPIED;
 
 pub(crate) fn lines() {
     kind_first();
@@ -24,7 +25,7 @@ fn kind_first() {
 // Spare not 0, and no such track: 2.
 fn spare_first() {
     group(27);
-    answer(report(1, 2, 3, 1, 0));
+    answer(report(ISLAND_OCCUPIED, 2, 3, 1, 0));
     end();
 }
 

@@ -1,11 +1,11 @@
 // 3, 4 and 5: a track, island or head that the station does not have.
-use crate::given::condition;
 use crate::given::normalised;
 use crate::printing::end;
 use crate::printing::group;
 use crate::refusing::answer;
 use crate::refusing::detector_answers;
 use crate::refusing::train_answers;
+use reports::condition;
 
 pub(crate) fn lines() {
     // 3: no such track, at the station's number

@@ -1,13 +1,13 @@
 // Bad input handed in: the answer to it, and " changed" where something has changed.
 use crate::comparing::same_station;
-use crate::given::failed;
-use crate::given::freed;
 use crate::given::least;
 use crate::given::normalised;
-use crate::given::occupied;
-use crate::given::restored;
 use crate::printing::changed_unless;
 use crate::printing::number;
+use reports::failed;
+use reports::freed;
+use reports::occupied;
+use reports::restored;
 use rules::Report;
 use rules::Settings;
 use rules::Station;

@@ -1,15 +1,15 @@
 // 6 and 7: what a station refuses as it is.
 use crate::given::after;
-use crate::given::failed;
-use crate::given::freed;
-use crate::given::normalise;
 use crate::given::normalised;
-use crate::given::occupied;
-use crate::given::restored;
 use crate::printing::end;
 use crate::printing::group;
 use crate::refusing::answer;
 use crate::refusing::answer_of;
+use reports::failed;
+use reports::freed;
+use reports::normalise;
+use reports::occupied;
+use reports::restored;
 
 pub(crate) fn lines() {
     trains();

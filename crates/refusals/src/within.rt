@@ -1,16 +1,16 @@
 // Each number is given in its stated case only: what stands just within a limit is answered 0.
 use crate::given::after;
 use crate::given::chosen;
-use crate::given::clock;
-use crate::given::condition;
-use crate::given::failed;
-use crate::given::freed;
 use crate::given::normalised;
-use crate::given::occupied;
-use crate::given::restored;
 use crate::printing::end;
 use crate::printing::group;
 use crate::printing::number;
+use reports::clock;
+use reports::condition;
+use reports::failed;
+use reports::freed;
+use reports::occupied;
+use reports::restored;
 use rules::Report;
 use rules::Seconds;
 use rules::Station;

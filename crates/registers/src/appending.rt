@@ -1,16 +1,11 @@
 // What starting and appending write, and what they leave.
 use crate::given::busy;
 use crate::given::chosen;
-use crate::given::clock;
-use crate::given::condition;
 use crate::given::handed_in;
 use crate::given::lent;
 use crate::given::many_settings;
-use crate::given::normalise;
 use crate::given::normalised;
-use crate::given::occupied;
 use crate::given::other_lent;
-use crate::given::report;
 use crate::given::worked_register;
 use crate::printing::byte;
 use crate::printing::changed_unless;
@@ -18,6 +13,11 @@ use crate::printing::end;
 use crate::printing::group;
 use crate::printing::numbers;
 use crate::printing::shown;
+use reports::clock;
+use reports::condition;
+use reports::normalise;
+use reports::occupied;
+use reports::report;
 use rules::Report;
 use rules::Station;
 use rules::Taken;

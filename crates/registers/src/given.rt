@@ -1,4 +1,7 @@
 // The settings, reports, stations and registers that the groups are made of.
+use reports::normalise;
+use reports::occupied;
+use reports::report;
 use rules::Report;
 use rules::Settings;
 use rules::Station;
@@ -23,32 +26,6 @@ pub(crate) fn worked_settings() -> Settings {
 // No two fields alike, nor two bytes of a field.
 pub(crate) fn many_settings() -> Settings {
     chosen(3, 258, 772, 2057, 1286, 1000)
-}
-
-pub(crate) fn report(kind: u8, a: u8, b: u8, spare: u8, value: u16) -> Report {
-    Report {
-        kind,
-        a,
-        b,
-        spare,
-        value,
-    }
-}
-
-pub(crate) fn occupied(track: u8, island: u8) -> Report {
-    report(1, track, island, 0, 0)
-}
-
-pub(crate) fn clock(ticks: u16) -> Report {
-    report(3, 0, 0, 0, ticks)
-}
-
-pub(crate) fn condition(head: u8, value: u16) -> Report {
-    report(6, head, 0, 0, value)
-}
-
-pub(crate) fn normalise() -> Report {
-    report(7, 0, 0, 0, 0)
 }
 
 // A report with nothing wrong in it, and one of no kind.

@@ -1,6 +1,5 @@
 // The largest register, in a lent buffer of 65,544 bytes, all 9s: starting and appending leave every
 // other byte. No byte that they write is a 9, so the 9s that are left are counted.
-use crate::given::clock;
 use crate::given::normalised;
 use crate::given::worked_settings;
 use crate::printing::byte;
@@ -9,6 +8,7 @@ use crate::printing::group;
 use crate::printing::number;
 use crate::printing::numbers;
 use crate::printing::settings;
+use reports::clock;
 
 pub(crate) fn lines() {
     last_entry();

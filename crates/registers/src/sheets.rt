@@ -1,9 +1,6 @@
 // What is printed of a register. The line of a group's number stands alone, and the lines printed
 // follow it.
-use crate::given::condition;
 use crate::given::fresh;
-use crate::given::normalise;
-use crate::given::occupied;
 use crate::given::other;
 use crate::given::worked_header;
 use crate::given::worked_register;
@@ -11,6 +8,9 @@ use crate::given::worked_settings;
 use crate::printing::end;
 use crate::printing::group;
 use crate::printing::text;
+use reports::condition;
+use reports::normalise;
+use reports::occupied;
 use rules::RowFields;
 use rules::ZoneDigits;
 

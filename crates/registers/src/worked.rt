@@ -1,10 +1,7 @@
 // The worked register of document 01: filled, read, stepped through and handed back.
-use crate::given::clock;
 use crate::given::fresh;
 use crate::given::lent;
 use crate::given::many_header;
-use crate::given::normalise;
-use crate::given::occupied;
 use crate::given::other_lent;
 use crate::given::worked_register;
 use crate::given::worked_settings;
@@ -15,6 +12,9 @@ use crate::printing::number;
 use crate::printing::numbers;
 use crate::printing::said;
 use crate::printing::shown;
+use reports::clock;
+use reports::normalise;
+use reports::occupied;
 
 pub(crate) fn lines() {
     filling();

@@ -18,19 +18,19 @@ pub(crate) fn fresh(t4: u16) -> Station {
 }
 
 pub(crate) fn normalised(t4: u16) -> Station {
-    taken(fresh(t4), 7, 0, 0, 0)
+    taken(fresh(t4), reports::normalise())
 }
 
 pub(crate) fn occupied(station: Station, track: u8, island: u8) -> Station {
-    taken(station, 1, track, island, 0)
+    taken(station, reports::occupied(track, island))
 }
 
 pub(crate) fn freed(station: Station, track: u8, island: u8) -> Station {
-    taken(station, 2, track, island, 0)
+    taken(station, reports::freed(track, island))
 }
 
 pub(crate) fn clock(station: Station, ticks: u16) -> Station {
-    taken(station, 3, 0, 0, ticks)
+    taken(station, reports::clock(ticks))
 }
 
 pub(crate) fn outputs(station: Station) -> u16 {
@@ -38,24 +38,10 @@ pub(crate) fn outputs(station: Station) -> u16 {
 }
 
 pub(crate) fn normalise_answer(station: Station) -> u8 {
-    let report = Report {
-        kind: 7,
-        a: 0,
-        b: 0,
-        spare: 0,
-        value: 0,
-    };
-    reports::take(station, report).answer
+    reports::take(station, reports::normalise()).answer
 }
 
-fn taken(station: Station, kind: u8, a: u8, b: u8, value: u16) -> Station {
-    let report = Report {
-        kind,
-        a,
-        b,
-        spare: 0,
-        value,
-    };
+fn taken(station: Station, report: Report) -> Station {
     let taken = reports::take(station, report);
     if taken.answer != rules::DONE {
         io::write_all(STDOUT_FILENO, b" refused");
