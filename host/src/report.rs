@@ -3,6 +3,15 @@
 use crate::declared;
 use std::fmt;
 
+// The kinds.
+const OCCUPIED: u8 = 1;
+const FREE: u8 = 2;
+const CLOCK: u8 = 3;
+const FAILED: u8 = 4;
+const RESTORED: u8 = 5;
+const HEAD: u8 = 6;
+const NORMALISE: u8 = 7;
+
 /// A report, six bytes of the register: document 01, "Reports". The functions make each kind; any other fields are answered by a
 /// number when the report is taken.
 #[derive(Clone, Copy, Debug, PartialEq, Eq, Hash)]
@@ -29,43 +38,43 @@ impl Report {
     /// advance side 2.
     #[must_use]
     pub fn occupied(track: u8, island: u8) -> Report {
-        Report::new(1, track, island, 0)
+        Report::new(OCCUPIED, track, island, 0)
     }
 
     /// An island of a track is free.
     #[must_use]
     pub fn free(track: u8, island: u8) -> Report {
-        Report::new(2, track, island, 0)
+        Report::new(FREE, track, island, 0)
     }
 
     /// The clock has gone so many ticks, each a tenth of a second.
     #[must_use]
     pub fn clock(ticks: u16) -> Report {
-        Report::new(3, 0, 0, ticks)
+        Report::new(CLOCK, 0, 0, ticks)
     }
 
     /// The detector of an island has failed.
     #[must_use]
     pub fn failed(track: u8, island: u8) -> Report {
-        Report::new(4, track, island, 0)
+        Report::new(FAILED, track, island, 0)
     }
 
     /// The detector of an island is restored.
     #[must_use]
     pub fn restored(track: u8, island: u8) -> Report {
-        Report::new(5, track, island, 0)
+        Report::new(RESTORED, track, island, 0)
     }
 
     /// A head is in this condition: bits 0 to 3 green, orange, red, board; 4 to 7 sounders S1 to S4; 8 power; 9 communication.
     #[must_use]
     pub fn head(head: u8, condition: u16) -> Report {
-        Report::new(6, head, 0, condition)
+        Report::new(HEAD, head, 0, condition)
     }
 
     /// The station is normalised.
     #[must_use]
     pub fn normalise() -> Report {
-        Report::new(7, 0, 0, 0)
+        Report::new(NORMALISE, 0, 0, 0)
     }
 }
 
@@ -81,13 +90,13 @@ impl fmt::Display for Report {
     fn fmt(&self, f: &mut fmt::Formatter<'_>) -> fmt::Result {
         let Report { kind, a, b, spare, value } = *self;
         match (kind, a, b, spare, value) {
-            (1, _, _, 0, 0) => write!(f, "occupied {a} {b}"),
-            (2, _, _, 0, 0) => write!(f, "free {a} {b}"),
-            (3, 0, 0, 0, _) => write!(f, "clock {value}"),
-            (4, _, _, 0, 0) => write!(f, "failed {a} {b}"),
-            (5, _, _, 0, 0) => write!(f, "restored {a} {b}"),
-            (6, _, 0, 0, _) => write!(f, "head {a} {value}"),
-            (7, 0, 0, 0, 0) => write!(f, "normalise"),
+            (OCCUPIED, _, _, 0, 0) => write!(f, "occupied {a} {b}"),
+            (FREE, _, _, 0, 0) => write!(f, "free {a} {b}"),
+            (CLOCK, 0, 0, 0, _) => write!(f, "clock {value}"),
+            (FAILED, _, _, 0, 0) => write!(f, "failed {a} {b}"),
+            (RESTORED, _, _, 0, 0) => write!(f, "restored {a} {b}"),
+            (HEAD, _, 0, 0, _) => write!(f, "head {a} {value}"),
+            (NORMALISE, 0, 0, 0, 0) => write!(f, "normalise"),
             _ => write!(f, "report {kind} {a} {b} {spare} {value}"),
         }
     }
