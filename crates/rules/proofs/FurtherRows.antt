@@ -6,7 +6,7 @@ use Rattle.rules.specs.rows.FurtherRows.{furtherRows}
 use Rattle.rules.specs.rows.Row.{firstWrong, named, others}
 
 -- no row has another name than these
-pub no-other : others (46 ∷ 47 ∷ 48 ∷ 49 ∷ 50 ∷ 51 ∷ 52 ∷ 53 ∷ 54 ∷ 55 ∷ 56 ∷ 57 ∷ 58 ∷ 59 ∷ 60 ∷ 61 ∷ 62 ∷ 63 ∷ []) furtherRows ≡ []
+pub no-other : others (46 ∷ 47 ∷ 48 ∷ 49 ∷ 50 ∷ 51 ∷ 52 ∷ 53 ∷ 54 ∷ 55 ∷ 56 ∷ 57 ∷ 58 ∷ 59 ∷ 60 ∷ 61 ∷ 62 ∷ 63 ∷ 64 ∷ []) furtherRows ≡ []
 unfolding computed
 no-other = refl
 
@@ -81,3 +81,7 @@ row-62 = refl
 pub row-63 : firstWrong (named 63 furtherRows) ≡ 0
 unfolding computed
 row-63 = refl
+
+pub row-64 : firstWrong (named 64 furtherRows) ≡ 0
+unfolding computed
+row-64 = refl

@@ -1,4 +1,4 @@
--- Rows H46 to H63, of our own: each is here because a wrong rule had passed every row before it. What is due is read off the sentence that stands above each.
+-- Rows H46 to H64, of our own: each but H64 is here because a wrong rule had passed every row before it. What is due is read off the sentence that stands above each.
 use Prim.Native.Nat.{ℕ}
 use mathlib.Core.Bool.{true, false}
 use mathlib.Core.List.{List, [], _∷_, _++_, map}
@@ -20,7 +20,7 @@ use Rattle.rules.specs.rows.RegisterRefusals.{other, tooMany}
 use Rattle.rules.specs.rows.RegisterRows.{said, stationTold}
 use Rattle.rules.specs.rows.Row.{Row, digits, each, rows, together}
 use Rattle.rules.specs.rows.StationRows.{aspects, fiveIslands, handed, told, toldAfter}
-use Rattle.rules.specs.rows.Table.{c2, c4, c7, c9, run, seconds, settings}
+use Rattle.rules.specs.rows.Table.{c2, c4, c7, c9, outputs, run, seconds, settings}
 
 -- C2 with a detector failed, and no fault all the same: no run reaches it
 abbrev pub failedUnlatched : Station
@@ -33,6 +33,25 @@ leavingCrossing = withTrack (c2 ours) 0 (withIsland (trackAt (c2 ours) 0) 2 (rec
 -- the aspect of a fresh station after these reports, with T4 = 50
 abbrev pub latched : List Report → ℕ
 latched reports = ours .aspect (run ours (ours .make (settings 50)) reports)
+
+-- the outputs after each event of a matrix, and the next event goes on from there
+abbrev pub outputsAfter : Station → List (List Report) → List ℕ
+outputsAfter s [] = []
+outputsAfter s (event ∷ events) = outputs ours (run ours s event) ∷ outputsAfter (run ours s event) events
+
+-- Document 000, matrix N10.1: train 1 comes from side 2 on track 0, and leaves by a siding from its warning island; train 2 passes from side 1 to side 2 on
+-- track 1. The events are those of the matrix, in its order.
+abbrev pub n10-1 : List (List Report)
+n10-1 =
+    []
+    ∷ (occupied 0 4 ∷ [])
+    ∷ (occupied 1 0 ∷ [])
+    ∷ (occupied 0 3 ∷ freed 0 4 ∷ [])
+    ∷ (occupied 1 1 ∷ freed 1 0 ∷ [])
+    ∷ (freed 0 3 ∷ [])
+    ∷ (occupied 1 2 ∷ freed 1 1 ∷ occupied 1 3 ∷ freed 1 2 ∷ [])
+    ∷ (occupied 1 4 ∷ freed 1 3 ∷ [])
+    ∷ []
 
 abbrev pub furtherRows : List Row
 furtherRows =
@@ -102,3 +121,5 @@ furtherRows =
     -- H63: a track with a leaving warning island counts, and one with a leaving advance island does not until that is held
     ++ rows 63 (together (map (λ l. digits (presenceOf (run ours (c2 ours) l))) (leaving 0 ∷ departing 0 ∷ (departing 0 ++ (clock 300 ∷ [])) ∷ [])))
     (1 ∷ 0 ∷ 0 ∷ 0 ∷ 0 ∷ 0 ∷ 0 ∷ 0 ∷ 1 ∷ 0 ∷ 0 ∷ 0 ∷ [])
+    -- H64: N10.1 keeps R+ after train 1 has gone to the siding, though its own note says the board is off. The note decides: 72 in its sixth event, not 152
+    ++ rows 64 (outputsAfter (c2 ours) n10-1) (1 ∷ 34 ∷ 152 ∷ 152 ∷ 152 ∷ 72 ∷ 1 ∷ 1 ∷ [])
