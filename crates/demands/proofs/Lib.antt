@@ -4,6 +4,7 @@ pub mod ApartTracks
 pub mod BrowseBack
 pub mod BrowseRows
 pub mod Computed
+pub mod Exactly
 pub mod Idle
 pub mod Once
 pub mod Quiet

@@ -12,7 +12,9 @@ use lib.Dec.{eqb, ltb}
 use lib.ListN.{length, take}
 use Rattle.chains.proofs.Chains.{group-refuses}
 use Rattle.demands.proofs.RegisterBytes.{same-entry, same-first, same-head, same-settings}
-use Rattle.demands.proofs.Stated.{stated-reading, stated-stepping}
+use Rattle.demands.proofs.Exactly.{in-its-case}
+use Rattle.demands.proofs.Stated.{stated-reading, stated-stepping, wrong-named}
+use Rattle.demands.specs.Stated.{ofReading, ofStepping}
 use Rattle.register.proofs.FirstWrong.{Names, names-first}
 use Rattle.rules.specs.Answers.{stationAfter}
 use Rattle.rules.specs.Layout.{entries, entryStart, reportIn}
@@ -50,11 +52,13 @@ module _ (b : List ℕ) where
   -- and one is named
   pub read-names-one : readOf b .answer ≡ 13 → readOf b .entry ≡ 0 → ⊥
   unfolding readOf readingOf
-  read-names-one e q = stated-reading b .thirteen e (sym (named (entries b) (readAnswer b) e) ∙ q)
+  read-names-one e q =
+      wrong-named b (entries b) (in-its-case (ofReading b) _ 13 (stated-reading b) e) (sym (named (entries b) (readAnswer b) e) ∙ q)
 
   pub step-names-one : (k : ℕ) → stepOf b k .answer ≡ 13 → stepOf b k .entry ≡ 0 → ⊥
   unfolding stepOf readingOf
-  step-names-one k e q = stated-stepping b k .thirteen e (sym (named k (stepAnswer b k) e) ∙ q)
+  step-names-one k e q =
+      wrong-named b k (in-its-case (ofStepping b k) _ 13 (stated-stepping b k) e) (sym (named k (stepAnswer b k) e) ∙ q)
 
 -- ---- stepping, from the first k entries and the length alone
 

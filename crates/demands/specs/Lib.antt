@@ -1,6 +1,7 @@
 pub mod Agree
 pub mod BrowseBack
 pub mod BrowseRows
+pub mod Exactly
 pub mod Idle
 pub mod Quiet
 pub mod QuietRows
