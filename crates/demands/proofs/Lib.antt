@@ -11,6 +11,7 @@ pub mod Quiet
 pub mod QuietRows
 pub mod Reached
 pub mod ReadBack
+pub mod Refusal
 pub mod RegisterBytes
 pub mod RegisterLaws
 pub mod ReplayLaws

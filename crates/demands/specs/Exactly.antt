@@ -16,7 +16,7 @@ pub data Cases : Type 1 where
 -- A number is answered exactly when its case holds and none before it does, and the last one exactly when no case holds.
 abbrev pub GivenAfter : Type 0 → Cases → ℕ → Type 0
 GivenAfter noneBefore (n when case then rest) answer =
-    (answer ≡ n ↔ noneBefore × case) × GivenAfter (noneBefore × (case → ⊥)) rest answer
+    (answer ≡ n ↔ (noneBefore × case)) × GivenAfter (noneBefore × (case → ⊥)) rest answer
 GivenAfter noneBefore (otherwise n) answer = answer ≡ n ↔ noneBefore
 
 abbrev pub GivenExactly : Cases → ℕ → Type 0

@@ -6,4 +6,5 @@ pub mod Idle
 pub mod Quiet
 pub mod QuietRows
 pub mod ReadBack
+pub mod Refusal
 pub mod Stated
