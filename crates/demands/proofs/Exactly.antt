@@ -4,13 +4,13 @@
 use Prim.Native.Nat.{ℕ, _≤_, _<_}
 use native.Mathlib.Decide.{ℕ-discrete}
 use native.Mathlib.Omega.{arith}
-use mathlib.Core.Logic.{_⊎_, inl, inr, ⊎-elim}
+use mathlib.Core.Logic.{_⊎_, ⊎-elim}
 use mathlib.Core.Path.{_≡_, refl, sym, ap, ap₂, subst, _∙_}
 use mathlib.Core.Bool.{Bool, true, false, true≢false, cond, not, or-true, _&&_, _||_}
 use mathlib.Core.List.{List, [], _∷_, _++_}
 use borrow.Author.Tests.{eq-eqb, eqb-false, eqb-true, leb-false, leb-true, ltb-false, ltb-true, not-false, not-true}
 use lib.Dec.{eqb, leb, ltb}
-use Rattle.chains.proofs.Chains.{both, either, group-passes, group-refuses, neither}
+use Rattle.chains.proofs.Chains.{both, either, neither}
 use Rattle.demands.specs.Exactly.{CaseOf, Cases, GivenAfter, GivenExactly, numbersOf, oneOf, otherwise, _when_then_}
 use Rattle.rules.specs.Words.{_if_then_, _▷_}
 

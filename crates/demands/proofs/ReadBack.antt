@@ -1,7 +1,7 @@
 -- Document 01, "The register": "Reading .. gives the rows back when they were appended at 0, 1, 2 and on, from a fresh station, each with the station the
 -- last one returned, and exactly the filled bytes are read." And demand 2: stepping back to any row gives the station as it was after that row.
 -- Assumes nothing.
-use Prim.Native.Nat.{ℕ, zero, suc, _+_, _-_, _%_, _≤_, _<_}
+use Prim.Native.Nat.{ℕ, zero, suc, _+_, _-_, _≤_, _<_}
 use native.Mathlib.Omega.{arith}
 use mathlib.Core.Path.{_≡_, refl, sym, ap, _∙_}
 use mathlib.Core.Bool.{Bool, true, cond, not, _&&_, _||_}
@@ -18,7 +18,7 @@ use Rattle.register.proofs.FirstWrong.{below-next, right}
 use Rattle.rules.specs.Answers.{answerOf, stationAfter}
 use Rattle.rules.specs.Aspect.{aspectOf}
 use Rattle.rules.specs.Layout.{entries, entryAt, entryOf, entryStart, header, reportIn, settingsIn}
-use Rattle.rules.specs.Register.{after, appendAnswer, asReplayed, entryAnswer, firstWrong, handedBack, headAnswer, lengthAnswer, newEntry, readAnswer, readOf, readingOf, registerAnswer, sameSettings, startAnswer, stepAnswer, stepOf, unfit}
+use Rattle.rules.specs.Register.{after, appendAnswer, asReplayed, entryAnswer, firstWrong, handedBack, headAnswer, newEntry, readAnswer, readOf, readingOf, registerAnswer, sameSettings, startAnswer, stepAnswer, stepOf, unfit}
 use Rattle.rules.specs.Station.{freshStation, leastSettings, made, settingsAnswer, withinLimits}
 use Rattle.rules.specs.Words.{_if_then_, _▷_}
 use Rattle.rules.specs.declared.Report.{Report}

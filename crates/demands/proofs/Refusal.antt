@@ -38,7 +38,7 @@ module _ (b : List ℕ) (k : ℕ) (s : Station) (r : Report) where
   to-seven z =
       let most = answer-below s r in
       let not-eight : answerOf s r ≡ 8 → ⊥ =
-          λ e. true≢false (sym (append-within b k (s .settings) z) ∙ in-its-case (ofTaking s r) _ 8 (stated-report s r) e) in
+      λ e. true≢false (sym (append-within b k (s .settings) z) ∙ in-its-case (ofTaking s r) _ 8 (stated-report s r) e) in
       omega arith
 
   append-leaves : AppendLeaves b k s r (appended b k s r .answer) (appended b k s r .station) (appendedBytes b k s r)

@@ -84,7 +84,7 @@ module _ (b b′ : List ℕ) where
     unfolding stepOf stepAnswer readingOf
     step-from first row =
         let answer : stepAnswer b k ≡ stepAnswer b′ k =
-            λ i. first i ▷ (14 if row i then 0) ▷ 13 if not (eqb (wrong-apart k e i) 0) then 0 in
+        λ i. first i ▷ (14 if row i then 0) ▷ 13 if not (eqb (wrong-apart k e i) 0) then 0 in
         λ i.
         record {
           answer = answer i;

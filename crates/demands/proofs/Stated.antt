@@ -3,16 +3,15 @@
 -- Assumes nothing.
 use Prim.Native.Nat.{ℕ, zero, suc, _+_, _*_, _-_, _%_}
 use native.Mathlib.Decide.{ℕ-discrete}
-use native.Mathlib.Omega.{arith}
 use mathlib.Core.Path.{_≡_, refl, sym, ap, subst, _∙_}
 use mathlib.Core.Bool.{Bool, true, false, false≢true, true≢false, cond, not, _&&_, _||_}
 use mathlib.Core.List.{List, [], _∷_}
 use borrow.Author.Tests.{not-false}
 use lib.ListN.{length}
-use Rattle.chains.proofs.Chains.{both-done, group-passes, neither, passed, same-order}
+use Rattle.chains.proofs.Chains.{both-done, neither, passed, same-order}
 use Rattle.demands.proofs.Exactly.{Row, Tells, Tests, at-most, below, equal, exactly, group, in-words, is, isnt, unequal, _and_, _before_, _on_, _or_}
 use Rattle.demands.specs.Exactly.{GivenExactly}
-use Rattle.demands.specs.Stated.{SomeWrong, ofAppending, ofHandingBack, ofLimits, ofReading, ofReport, ofStarting, ofStepping, ofTaking}
+use Rattle.demands.specs.Stated.{SomeWrong, ofAppending, ofHandingBack, ofLimits, ofReading, ofStarting, ofStepping, ofTaking}
 use Rattle.register.proofs.FirstWrong.{names-first, none-wrong}
 use Rattle.reports.proofs.ByNumber.{is-known, not-blocked}
 use Rattle.rules.specs.Answers.{already, answerOf, blocked, formAnswer, known, namesHead, namesIsland, placeAnswer, stateAnswer, wrongFields}
@@ -53,15 +52,15 @@ report s r =
     let kind = kindOf (r .kind) in
     group (1 on unknown (r .kind) ∷ 2 on unequal (r .spare) 0 or is (wrongFields kind r) ∷ [])
     before group (
-      3 on is (namesIsland kind) and at-most (s .settings .tracks) (r .a)
-      ∷ 5 on is (namesHead kind) and below 1 (r .a)
-      ∷ 4 on is (namesIsland kind) and below 4 (r .b)
-      ∷ []
+    3 on is (namesIsland kind) and at-most (s .settings .tracks) (r .a)
+    ∷ 5 on is (namesHead kind) and below 1 (r .a)
+    ∷ 4 on is (namesIsland kind) and below 4 (r .b)
+    ∷ []
     )
     before group (
-      6 on is (already kind (namedIsland s r))
-      ∷ 7 on in-words (is (blocked kind s)) (normalise-blocked s (r .kind)) (blocked-normalise s (r .kind))
-      ∷ []
+    6 on is (already kind (namedIsland s r))
+    ∷ 7 on in-words (is (blocked kind s)) (normalise-blocked s (r .kind)) (blocked-normalise s (r .kind))
+    ∷ []
     )
 
 pub stated-report : (s : Station) (r : Report) → GivenExactly (ofTaking s r) (answerOf s r)
@@ -114,9 +113,9 @@ module _ (b : List ℕ) (k : ℕ) where
       let d = s .settings in
       (head b
       before group (
-        8 on isnt (withinLimits c) or isnt (withinLimits d) or isnt (sameSettings c d)
-        ∷ 12 on at-most 8190 k or below (length b) (16 + 8 * (k + 1))
-        ∷ []
+      8 on isnt (withinLimits c) or isnt (withinLimits d) or isnt (sameSettings c d)
+      ∷ 12 on at-most 8190 k or below (length b) (16 + 8 * (k + 1))
+      ∷ []
       ))
       before report s r
 

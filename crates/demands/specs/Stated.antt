@@ -19,7 +19,7 @@ use Rattle.rules.specs.declared.Station.{Station}
 
 -- ---- a report
 
--- 1, 2, then 3 or 5, 4, and 6 or 7
+-- 1, 2, then 3 or 5, 4, and 6 or 7, where the station's settings have been tested
 abbrev pub ofReport : Station → Report → Cases
 ofReport s r =
     let kind = kindOf (r .kind) in
