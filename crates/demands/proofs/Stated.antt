@@ -47,21 +47,27 @@ blocked-normalise s kind e = subst (λ (k : ℕ). blocked (kindOf k) s ≡ true)
 abbrev limits : Bool → Tests
 limits good = group (8 on isnt good ∷ [])
 
-abbrev report : Station → Report → Tests
-report s r =
+-- as formAnswer, placeAnswer and stateAnswer have them
+abbrev form : Report → List Row
+form r = 1 on unknown (r .kind) ∷ 2 on unequal (r .spare) 0 or is (wrongFields (kindOf (r .kind)) r) ∷ []
+
+abbrev place : Station → Report → List Row
+place s r =
     let kind = kindOf (r .kind) in
-    group (1 on unknown (r .kind) ∷ 2 on unequal (r .spare) 0 or is (wrongFields kind r) ∷ [])
-    before group (
     3 on is (namesIsland kind) and at-most (s .settings .tracks) (r .a)
     ∷ 5 on is (namesHead kind) and below 1 (r .a)
     ∷ 4 on is (namesIsland kind) and below 4 (r .b)
     ∷ []
-    )
-    before group (
+
+abbrev state : Station → Report → List Row
+state s r =
+    let kind = kindOf (r .kind) in
     6 on is (already kind (namedIsland s r))
     ∷ 7 on in-words (is (blocked kind s)) (normalise-blocked s (r .kind)) (blocked-normalise s (r .kind))
     ∷ []
-    )
+
+abbrev report : Station → Report → Tests
+report s r = group (form r) before group (place s r) before group (state s r)
 
 pub stated-report : (s : Station) (r : Report) → GivenExactly (ofTaking s r) (answerOf s r)
 unfolding answerOf settingsAnswer formAnswer placeAnswer stateAnswer
@@ -91,7 +97,7 @@ abbrev head : List ℕ → Tests
 head b = group (9 on below (length b) 16 or isnt (hasMark b) ∷ 10 on unequal (versionIn b) 1 ∷ [])
 
 module _ (b : List ℕ) (k : ℕ) where
-  -- What has passed the tests of appending has settings within their limits,
+  -- Where appending refuses nothing the station's settings are within their limits,
   pub append-within : (c : Settings) → appendAnswer b k c ≡ 0 → withinLimits c ≡ true
   unfolding appendAnswer
   append-within c z =
@@ -99,7 +105,7 @@ module _ (b : List ℕ) (k : ℕ) where
       let fit = neither (out || not (withinLimits c)) _ (passed 7 _ _ (both-done (headAnswer b) _ z .1) .0) in
       not-false (withinLimits c) (neither out _ (fit .0) .1)
 
-  -- so that the report is not refused by 8 then
+  -- so that the report is refused by its own tests alone
   abbrev own : Station → Report → ℕ
   own s r = formAnswer r ▷ placeAnswer s r ▷ stateAnswer s r
 
@@ -107,23 +113,17 @@ module _ (b : List ℕ) (k : ℕ) where
   unfolding answerOf settingsAnswer _if_then_ _▷_
   report-own s r z = ap (λ (t : Bool). cond (not t) 8 0 ▷ own s r) (append-within (s .settings) z)
 
-  abbrev appending : Station → Report → Tests
-  appending s r =
-      let c = settingsIn b in
-      let d = s .settings in
-      (head b
-      before group (
+  abbrev fit : Settings → Settings → List Row
+  fit c d =
       8 on isnt (withinLimits c) or isnt (withinLimits d) or isnt (sameSettings c d)
       ∷ 12 on at-most 8190 k or below (length b) (16 + 8 * (k + 1))
       ∷ []
-      ))
-      before report s r
 
   pub stated-appending : (s : Station) (r : Report) → GivenExactly (ofAppending b k s r) (appended b k s r .answer)
   unfolding appended appendAnswer headAnswer formAnswer placeAnswer stateAnswer
   stated-appending s r =
       subst (GivenExactly (ofAppending b k s r)) (same-order _ _ (own s r) (answerOf s r) refl (λ z. sym (report-own s r z)))
-      (exactly (appending s r) refl)
+      (exactly ((head b before group (fit (settingsIn b) (s .settings))) before report s r) refl)
 
 -- ---- reading, stepping and handing back
 
