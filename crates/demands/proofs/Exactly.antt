@@ -112,8 +112,7 @@ one-after answer (n when case then rest) noneBefore h g =
     go : Dec (answer ≡ n) → ((answer ≡ n → ⊥) → oneOf (numbersOf rest) answer ≡ true) → oneOf (n ∷ numbersOf rest) answer ≡ true
     go (yes e) later = ap (λ (t : Bool). t || oneOf (numbersOf rest) answer) (eq-eqb answer n e)
     go (no e) later = ap (λ (t : Bool). eqb answer n || t) (later e) ∙ or-true (eqb answer n)
-one-after answer (otherwise n) noneBefore h g =
-    ap (λ (t : Bool). t || false) (eq-eqb answer n (g .1 h))
+one-after answer (otherwise n) noneBefore h g = ap (λ (t : Bool). t || false) (eq-eqb answer n (g .1 h))
 
 pub one-of : (cases : Cases) (answer : ℕ) → GivenExactly cases answer → oneOf (numbersOf cases) answer ≡ true
 one-of cases answer g = one-after answer cases Unit tt g
@@ -125,8 +124,7 @@ case-after answer (n when case then rest) noneBefore g = go (eqb n answer) refl 
     go : (t : Bool) → eqb n answer ≡ t → CaseOf answer rest → cond t case (CaseOf answer rest)
     go true e later = g .0 .0 (sym (eqb-true n answer e)) .1
     go false e later = later
-case-after answer (otherwise n) noneBefore g =
-    tt
+case-after answer (otherwise n) noneBefore g = tt
 
 pub in-its-case : (cases : Cases) (answer n : ℕ) → GivenExactly cases answer → answer ≡ n → CaseOf n cases
 in-its-case cases answer n g e = subst (λ (k : ℕ). CaseOf k cases) e (case-after answer cases Unit g)
@@ -142,8 +140,7 @@ same-after answer answer′ (n when case then rest) noneBefore h g g′ =
     go : Dec (answer ≡ n) → ((answer ≡ n → ⊥) → answer ≡ answer′) → answer ≡ answer′
     go (yes e) later = e ∙ sym (g′ .0 .1 (g .0 .0 e))
     go (no e) later = later e
-same-after answer answer′ (otherwise n) noneBefore h g g′ =
-    g .1 h ∙ sym (g′ .1 h)
+same-after answer answer′ (otherwise n) noneBefore h g g′ = g .1 h ∙ sym (g′ .1 h)
 
 pub only-one : (cases : Cases) (answer answer′ : ℕ) → GivenExactly cases answer → GivenExactly cases answer′ → answer ≡ answer′
 only-one cases answer answer′ = same-after answer answer′ cases Unit tt
@@ -165,8 +162,7 @@ past : (answer : ℕ) (cases : Cases) (noneBefore : Type 0) → (noneBefore → 
 past answer (n when case then rest) noneBefore held e =
     let h = neither _ _ e in
     ((λ q. absurd (eqb-false answer n (h .0) q), λ p. absurd (held (p .0))), past answer rest _ (λ p. held (p .0)) (h .1))
-past answer (otherwise n) noneBefore held e =
-    (λ q. absurd (eqb-false answer n (neither _ _ e .0) q), λ p. absurd (held p))
+past answer (otherwise n) noneBefore held e = (λ q. absurd (eqb-false answer n (neither _ _ e .0) q), λ p. absurd (held p))
 
 -- and where none has held so far, the first that does gives the answer
 from-here : (l : List Row) (noneBefore : Type 0) → noneBefore → apart (numbersOf (casesIn l)) ≡ true

@@ -41,10 +41,10 @@ module _ (b : List ℕ) (k : ℕ) (s : Station) (r : Report) where
       λ e. true≢false (sym (append-within b k (s .settings) z) ∙ in-its-case (ofTaking s r) _ 8 (stated-report s r) e) in
       omega arith
 
-  append-leaves : AppendLeaves b k s r (appended b k s r .answer) (appended b k s r .station) (appendedBytes b k s r)
+  append-leaves : AppendLeaves b k s r (appended b k s r) (appendedBytes b k s r)
   append-leaves = go (ℕ-discrete (appendAnswer b k (s .settings)) 0)
     where
-      go : Dec (appendAnswer b k (s .settings) ≡ 0) → AppendLeaves b k s r (appended b k s r .answer) (appended b k s r .station) (appendedBytes b k s r)
+      go : Dec (appendAnswer b k (s .settings) ≡ 0) → AppendLeaves b k s r (appended b k s r) (appendedBytes b k s r)
       go (yes z) =
           let same = ap (λ (t : Taken). t .answer) (append-applies b k s r z) in
           let seven = to-seven z in

@@ -1,6 +1,6 @@
 -- Document 01, "The numbers it answers": reading, stepping and handing back are tested for 9, 10, 11, 12 and 8 alike; 13 names the first entry whose
 -- answer or aspect is not what the replay gives; stepping reads the first k entries only. "Easy to get wrong": keeping rows that follow the live
--- station; a row stepped back to does not follow what came later.
+-- station; a row stepped back to does not follow what came later, and is what was read when it was the last.
 -- Assumes nothing.
 use Prim.Native.Nat.{ℕ, zero, suc, _-_, _/_, _%_, _≤_}
 use native.Mathlib.Omega.{arith}

@@ -11,6 +11,7 @@ use Rattle.rules.specs.Register.{appended, appendedBytes, startAnswer, started}
 use Rattle.rules.specs.declared.Report.{Report}
 use Rattle.rules.specs.declared.Settings.{Settings}
 use Rattle.rules.specs.declared.Station.{Station}
+use Rattle.rules.specs.declared.Taken.{Taken}
 
 -- the same bytes, but for the eight of entry k
 abbrev pub SameBut : ℕ → List ℕ → List ℕ → Type 0
@@ -19,17 +20,16 @@ SameBut k b b′ =
     × (drop (entryStart (k + 1)) b ≡ drop (entryStart (k + 1)) b′)
     × (length b ≡ length b′)
 
--- Appending a report at entry k.
-pub record AppendLeaves (b : List ℕ) (k : ℕ) (s : Station) (r : Report) (answer : ℕ) (after : Station) (written : List ℕ) : Type 0 where
-  pub station : (answer ≡ 0 → ⊥) → after ≡ s
-  -- with 8 or more every buffer is as it was
-  pub buffer : 8 ≤ answer → written ≡ b
+-- Appending a report at entry k: what is returned, and what is written then.
+pub record AppendLeaves (b : List ℕ) (k : ℕ) (s : Station) (r : Report) (returned : Taken) (written : List ℕ) : Type 0 where
+  pub station : (returned .answer ≡ 0 → ⊥) → returned .station ≡ s
+  -- with 8 or more the register is as it was
+  pub buffer : 8 ≤ returned .answer → written ≡ b
   -- 1 to 7 are the report's, and it gets its row: itself, its number and the aspect of the station that stayed
-  pub report : answer ≤ 7 → answer ≡ answerOf s r
-  pub row : 0 < answer → answer ≤ 7 → (entryAt written k ≡ entryOf r answer (aspectOf s)) × SameBut k written b
+  pub report : returned .answer ≤ 7 → returned .answer ≡ answerOf s r
+  pub row : 0 < returned .answer → returned .answer ≤ 7 → (entryAt written k ≡ entryOf r (returned .answer) (aspectOf s)) × SameBut k written b
 
 pub record RefusalLeaves : Type 0 where
   pub report : (s : Station) (r : Report) → (taken s r .answer ≡ 0 → ⊥) → taken s r .station ≡ s
   pub starting : (c : Settings) (b : List ℕ) → (startAnswer c b ≡ 0 → ⊥) → started c b ≡ b
-  pub appending : (b : List ℕ) (k : ℕ) (s : Station) (r : Report)
-      → AppendLeaves b k s r (appended b k s r .answer) (appended b k s r .station) (appendedBytes b k s r)
+  pub appending : (b : List ℕ) (k : ℕ) (s : Station) (r : Report) → AppendLeaves b k s r (appended b k s r) (appendedBytes b k s r)
