@@ -27,7 +27,6 @@ use Rattle.rules.specs.Station.{beyond, freeTrack, islandAt, live, obstructed, 
 use Rattle.rules.specs.Words.{any, count, _if_then_}
 use Rattle.rules.specs.declared.Island.{Island}
 use Rattle.rules.specs.declared.Report.{Report}
-use Rattle.rules.specs.declared.Settings.{Settings}
 use Rattle.rules.specs.declared.Station.{Station}
 use Rattle.rules.specs.declared.Track.{Track}
 
@@ -36,25 +35,25 @@ use Rattle.rules.specs.declared.Track.{Track}
 module _ {s t : Station} (e : Agree s t) where
   pub agree-risk : greatestRisk s ≡ greatestRisk t
   unfolding greatestRisk
-  agree-risk = λ i. any (someFresh (e .settings i)) (e .live i) && leb 2 (count (present (e .settings i)) (e .live i))
+  agree-risk = λ i. any (someFresh (e .others i .settings)) (e .live i) && leb 2 (count (present (e .others i .settings)) (e .live i))
 
   pub agree-aspect : aspectOf s ≡ aspectOf t
   unfolding aspectOf
-  agree-aspect = λ i. aspectIn (e .settings i) (e .live i) (e .fault i) (agree-risk i || ltb 0 (e .hold i))
+  agree-aspect = λ i. aspectIn (e .others i .settings) (e .live i) (e .others i .fault) (agree-risk i || ltb 0 (e .others i .hold))
 
   pub agree-heads : headsOf s ≡ headsOf t
   unfolding headsOf
-  agree-heads = λ i. map (headOutputs (outputsOf (agree-aspect i))) (e .conditions i)
+  agree-heads = λ i. map (headOutputs (outputsOf (agree-aspect i))) (e .others i .conditions)
 
   pub agree-zones : zonesOf s ≡ zonesOf t
   unfolding zonesOf
   agree-zones =
       λ i.
-      cond (withinLimits (e .settings i)) (map (λ k. cond (any (λ u. islandAt u k .occupied) (e .live i)) 0 1) (0 ∷ 1 ∷ 2 ∷ 3 ∷ 4 ∷ []))
+      cond (withinLimits (e .others i .settings)) (map (λ k. cond (any (λ u. islandAt u k .occupied) (e .live i)) 0 1) (0 ∷ 1 ∷ 2 ∷ 3 ∷ 4 ∷ []))
       (replicate 5 0)
 
   below-both : (a : ℕ) → a < s .settings .tracks → a < t .settings .tracks
-  below-both a h = subst (λ (c : Settings). a < c .tracks) (e .settings) h
+  below-both a h = subst (λ (u : Station). a < u .settings .tracks) (e .others) h
 
   -- A track below the number is one of the live ones.
   agree-track : (a : ℕ) → a < s .settings .tracks → trackAt s a ≡ trackAt t a
@@ -66,7 +65,7 @@ module _ {s t : Station} (e : Agree s t) where
 
   same-presence : (a : ℕ)
       → ltb a (s .settings .tracks) && present (s .settings) (trackAt s a) ≡ ltb a (t .settings .tracks) && present (t .settings) (trackAt t a)
-  same-presence a = go (ltb a (s .settings .tracks)) refl ∙ λ i. ltb a (e .settings i .tracks) && present (e .settings i) (trackAt t a)
+  same-presence a = go (ltb a (s .settings .tracks)) refl ∙ λ i. ltb a (e .others i .settings .tracks) && present (e .others i .settings) (trackAt t a)
     where
       go : (b : Bool) → ltb a (s .settings .tracks) ≡ b
           → ltb a (s .settings .tracks) && present (s .settings) (trackAt s a) ≡ ltb a (s .settings .tracks) && present (s .settings) (trackAt t a)
@@ -76,7 +75,7 @@ module _ {s t : Station} (e : Agree s t) where
   pub agree-presence : presenceOf s ≡ presenceOf t
   unfolding presenceOf
   agree-presence =
-      λ i. cond (withinLimits (e .settings i)) (same-presence 0 i ∷ same-presence 1 i ∷ same-presence 2 i ∷ same-presence 3 i ∷ []) (replicate 4 true)
+      λ i. cond (withinLimits (e .others i .settings)) (same-presence 0 i ∷ same-presence 1 i ∷ same-presence 2 i ∷ same-presence 3 i ∷ []) (replicate 4 true)
 
   agree-island : (r : Report) → r .a < s .settings .tracks → namedIsland s r ≡ namedIsland t r
   agree-island r h = ap (λ (u : Track). islandAt u (r .b)) (agree-track (r .a) h)
@@ -106,7 +105,7 @@ module _ {s t : Station} (e : Agree s t) where
   unfolding placeAnswer
   agree-place r =
       λ i.
-      3 if namesIsland (kindOf (r .kind)) && leb (e .settings i .tracks) (r .a) then
+      3 if namesIsland (kindOf (r .kind)) && leb (e .others i .settings .tracks) (r .a) then
       5 if namesHead (kindOf (r .kind)) && ltb 1 (r .a) then
       4 if namesIsland (kindOf (r .kind)) && ltb 4 (r .b) then
       0
@@ -119,21 +118,20 @@ module _ {s t : Station} (e : Agree s t) where
   pub agree-answer : (r : Report) → answerOf s r ≡ answerOf t r
   unfolding answerOf
   agree-answer r =
-      same-order _ _ _ _ (ap settingsAnswer (e .settings)) (λ _. same-order _ _ _ _ refl (λ _. same-order _ _ _ _ (agree-place r) (agree-state r)))
+      same-order _ _ _ _ (λ i. settingsAnswer (e .others i .settings)) (λ _. same-order _ _ _ _ refl (λ _. same-order _ _ _ _ (agree-place r) (agree-state r)))
 
 -- ---- what an accepted report does keeps the agreement
 
 module _ {s t : Station} (e : Agree s t) where
   agree-hold : {m n : ℕ} → m ≡ n → Agree (withHold s m) (withHold t n)
-  agree-hold q = record { settings = e .settings; live = e .live; hold = q; fault = e .fault; conditions = e .conditions }
+  agree-hold q = record { others = λ i. withHold (e .others i) (q i); live = e .live }
 
   agree-fault : {a b : Bool} → a ≡ b → Agree (withFault s a) (withFault t b)
-  agree-fault q = record { settings = e .settings; live = e .live; hold = e .hold; fault = q; conditions = e .conditions }
+  agree-fault q = record { others = λ i. withFault (e .others i) (q i); live = e .live }
 
   agree-condition : (h n : ℕ) → Agree (withCondition s h n) (withCondition t h n)
   unfolding withCondition
-  agree-condition h n =
-      record { settings = e .settings; live = e .live; hold = e .hold; fault = e .fault; conditions = λ i. set (e .conditions i) h n }
+  agree-condition h n = record { others = λ i. withCondition (e .others i) h n; live = e .live }
 
   agree-named : (r : Report) (f : Track → ℕ → Island)
       → r .a < s .settings .tracks
@@ -141,41 +139,35 @@ module _ {s t : Station} (e : Agree s t) where
   unfolding withTrack
   agree-named r f h =
       record {
-        settings = e .settings;
+        others = e .others;
         live =
             take-set-lt (s .settings .tracks) (s .tracks) (r .a) _ h
             ∙ ap₂ (λ (l : List Track) (u : Track). set l (r .a) (withIsland u (r .b) (f u (r .b)))) (e .live) (agree-track e (r .a) h)
             ∙ sym (take-set-lt (t .settings .tracks) (t .tracks) (r .a) _ (below-both e (r .a) h));
-        hold = e .hold;
-        fault = e .fault;
-        conditions = e .conditions;
       }
 
   agree-held : Agree (holdSet s) (holdSet t)
   unfolding holdSet
-  agree-held = agree-hold (λ i. cond (agree-risk e i) (e .settings i .t4) (e .hold i))
+  agree-held = agree-hold (λ i. cond (agree-risk e i) (e .others i .settings .t4) (e .others i .hold))
 
   agree-lowered : Agree (holdLowered s) (holdLowered t)
   unfolding holdLowered
-  agree-lowered = agree-hold (λ i. cond (not (agree-risk e i) && ltb 0 (e .hold i)) (e .hold i - 1) (e .hold i))
+  agree-lowered = agree-hold (λ i. let hold = e .others i .hold in cond (not (agree-risk e i) && ltb 0 hold) (hold - 1) hold)
 
   agree-older : Agree (allOlder s) (allOlder t)
   unfolding allOlder
   agree-older =
       record {
-        settings = e .settings;
+        others = e .others;
         live =
             changed-take olderTrack (s .settings .tracks) (s .tracks)
             ∙ ap (map olderTrack) (e .live)
             ∙ sym (changed-take olderTrack (t .settings .tracks) (t .tracks));
-        hold = e .hold;
-        fault = e .fault;
-        conditions = e .conditions;
       }
 
   agree-latched : Agree (faultLatched s) (faultLatched t)
   unfolding faultLatched
-  agree-latched = agree-fault (λ i. e .fault i || any (late (e .settings i)) (e .live i))
+  agree-latched = agree-fault (λ i. e .others i .fault || any (late (e .others i .settings)) (e .live i))
 
 agree-ticks : {s t : Station} → Agree s t → (n : ℕ) → Agree (ticks n s) (ticks n t)
 unfolding ticks tick

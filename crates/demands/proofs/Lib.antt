@@ -4,12 +4,14 @@ pub mod ApartTracks
 pub mod BrowseBack
 pub mod BrowseRows
 pub mod Computed
+pub mod Exactly
 pub mod Idle
 pub mod Once
 pub mod Quiet
 pub mod QuietRows
 pub mod Reached
 pub mod ReadBack
+pub mod Refusal
 pub mod RegisterBytes
 pub mod RegisterLaws
 pub mod ReplayLaws

@@ -1,9 +1,9 @@
 -- Document 01, "The register": "Reading .. gives the rows back when they were appended at 0, 1, 2 and on, from a fresh station, each with the station the
 -- last one returned, and exactly the filled bytes are read." And demand 2: stepping back to any row gives the station as it was after that row.
 -- Assumes nothing.
-use Prim.Native.Nat.{ℕ, zero, suc, _+_, _-_, _%_, _≤_, _<_}
+use Prim.Native.Nat.{ℕ, zero, suc, _+_, _-_, _≤_, _<_}
 use native.Mathlib.Omega.{arith}
-use mathlib.Core.Path.{_≡_, refl, ap, _∙_}
+use mathlib.Core.Path.{_≡_, refl, sym, ap, _∙_}
 use mathlib.Core.Bool.{Bool, true, cond, not, _&&_, _||_}
 use mathlib.Core.List.{List, []}
 use borrow.Author.Tests.{eq-eqb, le-ltb, lt-leb, ne-eqb}
@@ -11,14 +11,14 @@ use lib.Dec.{eqb, leb, ltb}
 use lib.ListN.{length, take}
 use lib.Seq.{length-take-le, take-take}
 use Rattle.demands.proofs.ApartTracks.{settings-stay}
-use Rattle.demands.proofs.RegisterBytes.{begun-head, begun-settings, entry-answer, entry-aspect, entry-report, first-entry, same-entry, same-first}
+use Rattle.demands.proofs.RegisterBytes.{begun-head, begun-settings, entry-answer, entry-aspect, entry-report, first-entry, length-done, same-entry, same-first}
 use Rattle.demands.proofs.RegisterLaws.{append-applies, append-elsewhere, append-enters, start-elsewhere, start-header}
 use Rattle.demands.specs.ReadBack.{Appends, Filling, ReadsBack, Room, answer, aspect, filled, ours, register, station, wholly}
 use Rattle.register.proofs.FirstWrong.{below-next, right}
 use Rattle.rules.specs.Answers.{answerOf, stationAfter}
 use Rattle.rules.specs.Aspect.{aspectOf}
 use Rattle.rules.specs.Layout.{entries, entryAt, entryOf, entryStart, header, reportIn, settingsIn}
-use Rattle.rules.specs.Register.{after, appendAnswer, asReplayed, entryAnswer, firstWrong, handedBack, headAnswer, lengthAnswer, newEntry, readAnswer, readOf, readingOf, registerAnswer, sameSettings, startAnswer, stepAnswer, stepOf, unfit}
+use Rattle.rules.specs.Register.{after, appendAnswer, asReplayed, entryAnswer, firstWrong, handedBack, headAnswer, newEntry, readAnswer, readOf, readingOf, registerAnswer, sameSettings, startAnswer, stepAnswer, stepOf, unfit}
 use Rattle.rules.specs.Station.{freshStation, leastSettings, made, settingsAnswer, withinLimits}
 use Rattle.rules.specs.Words.{_if_then_, _▷_}
 use Rattle.rules.specs.declared.Report.{Report}
@@ -97,8 +97,8 @@ can-append f n k room =
     ∙ ap (appendAnswer b n) (station-settings f n (room .settings))
     ∙ append-done b n c (room .settings) (begun-head c b (k .head) (omega arith)) (begun-settings c b (k .head)) (room .few) lent
 
-earlier : (f : Filling) (n : ℕ) → Room f (suc n) → Room f n
-earlier f n room = record { settings = room .settings; few = omega (arith, room .few); lent = omega (arith, room .lent) }
+earlier : (f : Filling) (n k : ℕ) → Room f n → k ≤ n → Room f k
+earlier f n k room h = record { settings = room .settings; few = omega (arith, room .few); lent = omega (arith, room .lent) }
 
 keeps : (f : Filling) (n : ℕ) → Kept f n → Room f (suc n) → Kept f (suc n)
 unfolding filled station
@@ -128,13 +128,13 @@ kept f zero room =
       entry = λ j h. let no : ⊥ = omega arith in absurd no;
     }
 kept f (suc n) room =
-    keeps f n (kept f n (earlier f n room)) room
+    keeps f n (kept f n (earlier f (suc n) n room (omega arith))) room
 
 -- Appending answers, and returns, what the rules do.
 pub appends : (f : Filling) (n : ℕ) → Room f (suc n) → Appends f n
 unfolding station
 appends f n room =
-    let k = kept f n (earlier f n room) in
+    let k = kept f n (earlier f (suc n) n room (omega arith)) in
     record {
       taken =
           append-applies (filled f n .bytes) n (filled f n .station) (f .report n) (can-append f n k room)
@@ -161,21 +161,12 @@ module _ (f : Filling) (n : ℕ) (room : Room f n) where
   filled-settings : settingsIn (register f n) ≡ f .settings
   filled-settings = begun-settings (f .settings) (register f n) filled-head
 
-  length-done : lengthAnswer (register f n) ≡ 0
-  unfolding lengthAnswer _if_then_
-  length-done =
-      let whole : (length (register f n) - 16) % 8 ≡ 0 = omega (arith, filled-length) in
-      λ i.
-      11 if not (eq-eqb ((length (register f n) - 16) % 8) 0 whole i) then
-      12 if le-ltb 8190 (entries (register f n)) (omega (arith, filled-entries, room .few)) i then
-      0
-
   register-done : registerAnswer (register f n) ≡ 0
   unfolding registerAnswer _▷_
   register-done =
       λ i.
       begun-head (f .settings) (register f n) filled-head (omega (arith, filled-length)) i
-      ▷ length-done i
+      ▷ length-done (register f n) n filled-length (room .few) i
       ▷ (ap settingsAnswer filled-settings ∙ settings-done (f .settings) (room .settings)) i
 
   pub replayed : (k : ℕ) → k ≤ n → after (register f n) k ≡ station f k
@@ -236,3 +227,7 @@ module _ (f : Filling) (n : ℕ) (room : Room f n) where
 
 pub read-back : (f : Filling) (n : ℕ) → Room f n → ReadsBack ours f n
 read-back f n room = record { whole = read-whole f n room; steps = read-step f n room; entries = read-entry f n room }
+
+-- Stepping to row k after n reports is reading after k reports.
+pub step-then : (f : Filling) (n k : ℕ) → Room f n → k ≤ n → stepOf (register f n) k ≡ readOf (register f k)
+step-then f n k room h = read-step f n room k h ∙ sym (read-whole f k (earlier f n k room h))

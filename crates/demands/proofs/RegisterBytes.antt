@@ -1,18 +1,18 @@
 -- Document 01, "The register": header of 16 bytes, each entry 8 bytes. What is read out of them is what was put in, and bytes put in one place
 -- leave the others.
 -- Assumes nothing.
-use Prim.Native.Nat.{ℕ, zero, suc, _+_, _*_, _≤_, _<_}
+use Prim.Native.Nat.{ℕ, zero, suc, _+_, _*_, _-_, _%_, _≤_, _<_}
 use native.Mathlib.Nat.{mod-add-div}
 use native.Mathlib.Omega.{arith}
 use mathlib.Core.Path.{_≡_, refl, sym, ap, _∙_}
-use mathlib.Core.Bool.{Bool, false, cond, not, _&&_, _||_}
+use mathlib.Core.Bool.{Bool, not, _&&_, _||_}
 use mathlib.Core.List.{List, [], _∷_}
-use borrow.Author.Tests.{le-ltb}
+use borrow.Author.Tests.{eq-eqb, le-ltb}
 use lib.Dec.{eqb, ltb}
 use lib.ListN.{length, take, drop, getD, length-append, length-drop}
 use lib.Seq.{drop-at, drop-drop, getD-take, length-take-le, take-at, take-take}
-use Rattle.rules.specs.Layout.{answerIn, aspectIn, entryAt, entryOf, entryStart, header, reportIn, settingsIn}
-use Rattle.rules.specs.Register.{headAnswer}
+use Rattle.rules.specs.Layout.{answerIn, aspectIn, entries, entryAt, entryOf, entryStart, header, reportIn, settingsIn}
+use Rattle.rules.specs.Register.{headAnswer, lengthAnswer}
 use Rattle.rules.specs.Words.{put, _if_then_}
 use Rattle.rules.specs.declared.Report.{Report}
 use Rattle.rules.specs.declared.Settings.{Settings}
@@ -80,14 +80,14 @@ first-settings b =
 pub same-settings : (b b′ : List ℕ) → take 16 b ≡ take 16 b′ → settingsIn b ≡ settingsIn b′
 same-settings b b′ e = sym (first-settings b) ∙ ap settingsIn e ∙ first-settings b′
 
--- 9 and 10 are answered from the first 16 bytes and the length
-abbrev headFrom : ℕ → List ℕ → ℕ
-headFrom n b =
-    9 if ltb n 16 || not (eqb (getD b 0 0) 67 && eqb (getD b 1 0) 69 && eqb (getD b 2 0) 65) then
+-- 9 and 10 are answered from the first 16 bytes, and from whether there are as many
+abbrev headFrom : Bool → List ℕ → ℕ
+headFrom short b =
+    9 if short || not (eqb (getD b 0 0) 67 && eqb (getD b 1 0) 69 && eqb (getD b 2 0) 65) then
     10 if not (eqb (getD b 3 0 + 256 * getD b 4 0) 1) then
     0
 
-first-head : (b : List ℕ) → headFrom (length b) (take 16 b) ≡ headAnswer b
+first-head : (b : List ℕ) → headFrom (ltb (length b) 16) (take 16 b) ≡ headAnswer b
 unfolding headAnswer
 first-head b =
     let at = first-byte b in
@@ -96,7 +96,7 @@ first-head b =
     10 if not (eqb (at 3 (omega arith) i + 256 * at 4 (omega arith) i) 1) then
     0
 
-pub same-head : (b b′ : List ℕ) → take 16 b ≡ take 16 b′ → length b ≡ length b′ → headAnswer b ≡ headAnswer b′
+pub same-head : (b b′ : List ℕ) → take 16 b ≡ take 16 b′ → ltb (length b) 16 ≡ ltb (length b′) 16 → headAnswer b ≡ headAnswer b′
 same-head b b′ e l = sym (first-head b) ∙ (λ i. headFrom (l i) (e i)) ∙ first-head b′
 
 -- bytes that begin with a header hold its settings, and are refused with neither number
@@ -106,7 +106,18 @@ begun-settings c b e = sym (first-settings b) ∙ ap settingsIn e ∙ header-set
 pub begun-head : (c : Settings) (b : List ℕ) → take 16 b ≡ header c → 16 ≤ length b → headAnswer b ≡ 0
 unfolding header _if_then_
 begun-head c b e h =
-    sym (first-head b) ∙ ap (headFrom (length b)) e ∙ ap (λ (t : Bool). cond (t || false) 9 0) (le-ltb (length b) 16 h)
+    sym (first-head b) ∙ λ i. headFrom (le-ltb (length b) 16 h i) (e i)
+
+-- ---- the length
+
+-- whole entries, and not too many: neither 11 nor 12
+pub length-done : (b : List ℕ) (n : ℕ) → length b ≡ entryStart n → n ≤ 8190 → lengthAnswer b ≡ 0
+unfolding lengthAnswer _if_then_
+length-done b n l few =
+    λ i.
+    11 if not (eq-eqb ((length b - 16) % 8) 0 (omega arith) i) then
+    12 if le-ltb 8190 (entries b) (omega arith) i then
+    0
 
 -- ---- an entry
 

@@ -13,6 +13,7 @@ use lib.Dec.{eqb, leb, ltb}
 use lib.ListN.{length, take, drop}
 use Rattle.chains.proofs.Chains.{both-done, group-passes, group-refuses, passed, where-done, where-refused}
 use Rattle.demands.proofs.RegisterBytes.{put-after, put-before, put-length, put-there, same-head, same-settings}
+use Rattle.demands.specs.Refusal.{SameBut}
 use Rattle.register.proofs.Entering.{room}
 use Rattle.reports.proofs.Taking.{after-refused}
 use Rattle.rules.specs.Answers.{answerOf, stationAfter}
@@ -108,17 +109,11 @@ module _ (b : List ℕ) (k : ℕ) (s : Station) (r : Report) where
       )
 
   -- Appending at entry k writes those 8 bytes only.
-  pub append-elsewhere :
-      (take (entryStart k) (appendedBytes b k s r) ≡ take (entryStart k) b)
-      × (drop (entryStart (k + 1)) (appendedBytes b k s r) ≡ drop (entryStart (k + 1)) b)
-      × (length (appendedBytes b k s r) ≡ length b)
+  pub append-elsewhere : SameBut k (appendedBytes b k s r) b
   unfolding entryOf
   append-elsewhere = go (ℕ-discrete (appendAnswer b k (s .settings)) 0)
     where
-      go : Dec (appendAnswer b k (s .settings) ≡ 0)
-          → (take (entryStart k) (appendedBytes b k s r) ≡ take (entryStart k) b)
-          × (drop (entryStart (k + 1)) (appendedBytes b k s r) ≡ drop (entryStart (k + 1)) b)
-          × (length (appendedBytes b k s r) ≡ length b)
+      go : Dec (appendAnswer b k (s .settings) ≡ 0) → SameBut k (appendedBytes b k s r) b
       go (yes z) =
           let room = append-room z in
           let next : entryStart k + 8 ≡ entryStart (k + 1) = omega arith in (
@@ -135,7 +130,7 @@ module _ (b b′ : List ℕ) (k : ℕ) (s : Station) (r : Report) (e : take 16 b
   same-answer : (c : Settings) → appendAnswer b k c ≡ appendAnswer b′ k c
   unfolding appendAnswer
   same-answer c =
-      λ i. same-head b b′ e l i ▷ 8 if unfit (same-settings b b′ e i) c then 12 if leb 8190 k || ltb (l i) (entryStart (k + 1)) then 0
+      λ i. same-head b b′ e (ap (λ (n : ℕ). ltb n 16) l) i ▷ 8 if unfit (same-settings b b′ e i) c then 12 if leb 8190 k || ltb (l i) (entryStart (k + 1)) then 0
 
   pub append-apart : appended b k s r ≡ appended b′ k s r
   unfolding appended

@@ -1,51 +1,33 @@
 -- Document 01, "The numbers it answers", and demand 1: any report, setting or register is taken or refused by a number, and each number is given in its
--- stated case only.
+-- stated case only. The tests stand here as in the definitions, each with the words of the table.
 -- Assumes nothing.
-use Prim.Native.Nat.{ℕ, _-_, _%_, _≤_, _<_}
+use Prim.Native.Nat.{ℕ, zero, suc, _+_, _*_, _-_, _%_}
 use native.Mathlib.Decide.{ℕ-discrete}
-use native.Mathlib.Omega.{arith}
-use mathlib.Core.Logic.{_⊎_, inl, inr, ⊎-elim}
 use mathlib.Core.Path.{_≡_, refl, sym, ap, subst, _∙_}
-use mathlib.Core.Bool.{Bool, true, false, false≢true, cond, not, _&&_, _||_}
+use mathlib.Core.Bool.{Bool, true, false, false≢true, true≢false, cond, not, _&&_, _||_}
 use mathlib.Core.List.{List, [], _∷_}
-use borrow.Author.Tests.{eqb-false, eqb-true, leb-true, ltb-true, not-true}
-use lib.Dec.{eqb, leb, ltb}
+use borrow.Author.Tests.{not-false}
 use lib.ListN.{length}
-use Rattle.chains.proofs.Chains.{both, either, group-so}
-use Rattle.chains.proofs.Given.{Tests, each, every, first, given, none, testOf, _before_, _on_else_}
-use Rattle.demands.specs.Stated.{OfAppending, OfHandingBack, OfLimits, OfReading, OfRegister, OfReport, OfStarting, OfStepping, oneOf}
+use Rattle.chains.proofs.Chains.{both-done, neither, passed, same-order}
+use Rattle.demands.proofs.Exactly.{Row, Tells, Tests, at-most, below, equal, exactly, group, in-words, is, isnt, unequal, _and_, _before_, _on_, _or_}
+use Rattle.demands.specs.Exactly.{GivenExactly}
+use Rattle.demands.specs.Stated.{SomeWrong, ofAppending, ofHandingBack, ofLimits, ofReading, ofStarting, ofStepping, ofTaking}
+use Rattle.register.proofs.FirstWrong.{names-first, none-wrong}
 use Rattle.reports.proofs.ByNumber.{not-blocked}
 use Rattle.rules.specs.Answers.{already, answerOf, blocked, formAnswer, namesHead, namesIsland, placeAnswer, stateAnswer, wrongFields}
 use Rattle.rules.specs.Kinds.{kindOf}
 use Rattle.rules.specs.Layout.{entries, hasMark, settingsIn, versionIn}
-use Rattle.rules.specs.Register.{appendAnswer, appended, entryAnswer, firstWrong, full, headAnswer, lengthAnswer, readAnswer, readOf, readingOf, registerAnswer, startAnswer, stepAnswer, stepOf, unfit}
+use Rattle.rules.specs.Register.{appendAnswer, appended, entryAnswer, firstWrong, headAnswer, lengthAnswer, readAnswer, readOf, readingOf, registerAnswer, sameSettings, startAnswer, stepAnswer, stepOf}
 use Rattle.rules.specs.Reports.{namedIsland}
 use Rattle.rules.specs.Siting.{advanceSited, messageGood, speedGood, tracksGood, warningSited}
 use Rattle.rules.specs.Station.{made, obstructed, settingsAnswer, withinLimits}
-use Rattle.rules.specs.Words.{within, _▷_}
+use Rattle.rules.specs.Words.{within, _if_then_, _▷_}
 use Rattle.rules.specs.declared.Report.{Report}
 use Rattle.rules.specs.declared.Seconds.{Seconds}
 use Rattle.rules.specs.declared.Settings.{Settings}
 use Rattle.rules.specs.declared.Station.{Station}
 
--- a test that fails on one number alone
-unequal : (x n : ℕ) → not (eqb x n) ≡ true → x ≡ n → ⊥
-unequal x n e = eqb-false x n (not-true _ e)
-
--- ---- reports, settings and siting: the tests as they stand in the definitions, and each number by its own
-
-abbrev limits : Bool → Tests
-limits good = 8 on not good else none
-
-abbrev report : Station → Report → Tests
-report s r =
-    let kind = kindOf (r .kind) in
-    limits (withinLimits (s .settings))
-    before (1 on not (within 1 7 (r .kind)) else 2 on not (eqb (r .spare) 0) || wrongFields kind r else none)
-    before (3 on namesIsland kind && leb (s .settings .tracks) (r .a) else
-    5 on namesHead kind && ltb 1 (r .a) else
-    4 on namesIsland kind && ltb 4 (r .b) else none)
-    before 6 on already kind (namedIsland s r) else 7 on blocked kind s else none
+-- ---- a report
 
 -- normalise alone is blocked
 normalise-blocked : (s : Station) (kind : ℕ) → blocked (kindOf kind) s ≡ true → (kind ≡ 7) × (obstructed s ≡ true)
@@ -56,142 +38,122 @@ normalise-blocked s kind e = go (ℕ-discrete kind 7)
     go (yes q) = (q, subst (λ (k : ℕ). blocked (kindOf k) s ≡ true) q e)
     go (no h) = absurd (false≢true (sym (not-blocked s kind h) ∙ e))
 
-pub stated-report : (s : Station) (r : Report) → OfReport s r
+blocked-normalise : (s : Station) (kind : ℕ) → (kind ≡ 7) × (obstructed s ≡ true) → blocked (kindOf kind) s ≡ true
+unfolding kindOf
+blocked-normalise s kind e = subst (λ (k : ℕ). blocked (kindOf k) s ≡ true) (sym (e .0)) (e .1)
+
+abbrev limits : Bool → Tests
+limits good = group (8 on isnt good ∷ [])
+
+-- as formAnswer, placeAnswer and stateAnswer have them
+abbrev form : Report → List Row
+form r = 1 on isnt (within 1 7 (r .kind)) ∷ 2 on unequal (r .spare) 0 or is (wrongFields (kindOf (r .kind)) r) ∷ []
+
+abbrev place : Station → Report → List Row
+place s r =
+    let kind = kindOf (r .kind) in
+    3 on is (namesIsland kind) and at-most (s .settings .tracks) (r .a)
+    ∷ 5 on is (namesHead kind) and below 1 (r .a)
+    ∷ 4 on is (namesIsland kind) and below 4 (r .b)
+    ∷ []
+
+abbrev state : Station → Report → List Row
+state s r =
+    let kind = kindOf (r .kind) in
+    6 on is (already kind (namedIsland s r))
+    ∷ 7 on in-words (is (blocked kind s)) (normalise-blocked s (r .kind)) (blocked-normalise s (r .kind))
+    ∷ []
+
+abbrev report : Station → Report → Tests
+report s r = group (form r) before group (place s r) before group (state s r)
+
+pub stated-report : (s : Station) (r : Report) → GivenExactly (ofTaking s r) (answerOf s r)
 unfolding answerOf settingsAnswer formAnswer placeAnswer stateAnswer
-stated-report s r =
-    record {
-      number = leb-true _ _ (each (λ n. leb n 8) (report s r) refl);
-      one = λ e. not-true _ (given (report s r) 1 e);
-      two = λ e. either _ _ (unequal _ _) (λ h. h) (given (report s r) 2 e);
-      three = λ e. let h = both _ _ (given (report s r) 3 e) in (h .0, leb-true _ _ (h .1));
-      four = λ e. let h = both _ _ (given (report s r) 4 e) in (h .0, ltb-true _ _ (h .1));
-      five = λ e. let h = both _ _ (given (report s r) 5 e) in (h .0, ltb-true _ _ (h .1));
-      six = given (report s r) 6;
-      seven = λ e. normalise-blocked s (r .kind) (given (report s r) 7 e);
-      eight = λ e. not-true _ (given (report s r) 8 e);
-    }
+stated-report s r = exactly (limits (withinLimits (s .settings)) before report s r) refl
 
--- tests of limits alone
-stated-limits : (good : Bool) → OfLimits good (first (limits good))
-stated-limits good = record { number = each (oneOf (0 ∷ 8 ∷ [])) (limits good) refl; eight = λ e. not-true _ (given (limits good) 8 e) }
+-- ---- settings and siting
 
-pub stated-settings : (c : Settings) → OfLimits (withinLimits c) (made c .answer)
+pub stated-settings : (c : Settings) → GivenExactly (ofLimits (withinLimits c)) (made c .answer)
 unfolding made settingsAnswer
-stated-settings c = stated-limits (withinLimits c)
+stated-settings c = exactly (limits (withinLimits c)) refl
 
-pub stated-advance : (v : ℕ) (m : Seconds) → OfLimits (speedGood v && messageGood (m .0)) (advanceSited v m .answer)
+pub stated-advance : (v : ℕ) (m : Seconds) → GivenExactly (ofLimits (speedGood v && messageGood (m .0))) (advanceSited v m .answer)
 unfolding advanceSited
-stated-advance v m = stated-limits (speedGood v && messageGood (m .0))
+stated-advance v m = exactly (limits (speedGood v && messageGood (m .0))) refl
 
-pub stated-warning : (v n : ℕ) → OfLimits (speedGood v && tracksGood n) (warningSited v n .answer)
+pub stated-warning : (v n : ℕ) → GivenExactly (ofLimits (speedGood v && tracksGood n)) (warningSited v n .answer)
 unfolding warningSited
-stated-warning v n = stated-limits (speedGood v && tracksGood n)
+stated-warning v n = exactly (limits (speedGood v && tracksGood n)) refl
 
 -- ---- starting and appending
 
-abbrev starting : Settings → List ℕ → Tests
-starting c b = limits (withinLimits c) before 12 on ltb (length b) 16 else none
-
-pub stated-starting : (c : Settings) (b : List ℕ) → OfStarting c b
+pub stated-starting : (c : Settings) (b : List ℕ) → GivenExactly (ofStarting c b) (startAnswer c b)
 unfolding startAnswer settingsAnswer
-stated-starting c b =
-    record {
-      number = each (oneOf (0 ∷ 8 ∷ 12 ∷ [])) (starting c b) refl;
-      eight = λ e. not-true _ (given (starting c b) 8 e);
-      twelve = λ e. ltb-true _ _ (given (starting c b) 12 e);
-    }
+stated-starting c b = exactly (limits (withinLimits c) before group (12 on below (length b) 16 ∷ [])) refl
 
 abbrev head : List ℕ → Tests
-head b = 9 on ltb (length b) 16 || not (hasMark b) else 10 on not (eqb (versionIn b) 1) else none
+head b = group (9 on below (length b) 16 or isnt (hasMark b) ∷ 10 on unequal (versionIn b) 1 ∷ [])
 
-short-or-unmarked : (b : List ℕ) → ltb (length b) 16 || not (hasMark b) ≡ true → (length b < 16) ⊎ (hasMark b ≡ false)
-short-or-unmarked b = either _ _ (ltb-true _ _) (not-true _)
+module _ (b : List ℕ) (k : ℕ) where
+  -- Where appending refuses nothing the station's settings are within their limits,
+  pub append-within : (c : Settings) → appendAnswer b k c ≡ 0 → withinLimits c ≡ true
+  unfolding appendAnswer
+  append-within c z =
+      let out = not (withinLimits (settingsIn b)) in
+      let fit = neither (out || not (withinLimits c)) _ (passed 7 _ _ (both-done (headAnswer b) _ z .1) .0) in
+      not-false (withinLimits c) (neither out _ (fit .0) .1)
 
-abbrev room : List ℕ → ℕ → Settings → Tests
-room b k c = head b before 8 on unfit (settingsIn b) c else 12 on full b k else none
+  -- so that the report is refused by its own tests alone
+  abbrev own : Station → Report → ℕ
+  own s r = formAnswer r ▷ placeAnswer s r ▷ stateAnswer s r
 
--- a group of 8 and above before another: what is below 8 is the other's
-below-eight : (x y : Tests) → every (λ n. eqb n 0 || ltb 7 n) x ≡ true → first (x before y) ≤ 7 → first (x before y) ≡ first y
-unfolding _▷_
-below-eight x y h = go (eqb (first x) 0) (each _ x h)
-  where
-    go : (t : Bool) → t || ltb 7 (first x) ≡ true → cond t (first y) (first x) ≤ 7 → cond t (first y) (first x) ≡ first y
-    go true g l = refl
-    go false g l = let z : ⊥ = omega (arith, ltb-true 7 (first x) g) in absurd z
+  report-own : (s : Station) (r : Report) → appendAnswer b k (s .settings) ≡ 0 → answerOf s r ≡ own s r
+  unfolding answerOf settingsAnswer _if_then_ _▷_
+  report-own s r z = ap (λ (t : Bool). cond (not t) 8 0 ▷ own s r) (append-within (s .settings) z)
 
-module _ (b : List ℕ) (k : ℕ) (s : Station) (r : Report) where
-  abbrev appending : Tests
-  appending = room b k (s .settings) before report s r
+  abbrev fit : Settings → Settings → List Row
+  fit c d =
+      8 on isnt (withinLimits c) or isnt (withinLimits d) or isnt (sameSettings c d)
+      ∷ 12 on at-most 8190 k or below (length b) (16 + 8 * (k + 1))
+      ∷ []
 
-  pub stated-appending : OfAppending b k s r
-  unfolding appended appendAnswer headAnswer answerOf settingsAnswer formAnswer placeAnswer stateAnswer
-  stated-appending =
-      record {
-        number = each (oneOf (0 ∷ 1 ∷ 2 ∷ 3 ∷ 4 ∷ 5 ∷ 6 ∷ 7 ∷ 8 ∷ 9 ∷ 10 ∷ 12 ∷ [])) appending refl;
-        report = below-eight (room b k (s .settings)) (report s r) refl;
-        eight = λ e.
-            ⊎-elim (λ h. inl (inr h)) (either _ _ (either _ _ (not-true _) (not-true _)) (not-true _))
-            (either _ _ (not-true _) (λ h. h) (given appending 8 e));
-        nine = λ e. short-or-unmarked b (given appending 9 e);
-        ten = λ e. unequal _ _ (given appending 10 e);
-        twelve = λ e. either _ _ (leb-true _ _) (ltb-true _ _) (given appending 12 e);
-      }
+  pub stated-appending : (s : Station) (r : Report) → GivenExactly (ofAppending b k s r) (appended b k s r .answer)
+  unfolding appended appendAnswer headAnswer formAnswer placeAnswer stateAnswer
+  stated-appending s r =
+      subst (GivenExactly (ofAppending b k s r)) (same-order _ _ (own s r) (answerOf s r) refl (λ z. sym (report-own s r z)))
+      (exactly ((head b before group (fit (settingsIn b) (s .settings))) before report s r) refl)
 
 -- ---- reading, stepping and handing back
 
-abbrev register : List ℕ → Tests
-register b =
-    head b
-    before (11 on not (eqb ((length b - 16) % 8) 0) else 12 on ltb 8190 (entries b) else none)
-    before limits (withinLimits (settingsIn b))
-
 module _ (b : List ℕ) where
-  -- what comes after the tests of the register gives none of their numbers
-  of-register : (rest : Tests) → every (λ n. not (within 8 12 n)) rest ≡ true → OfRegister b (first (register b before rest))
-  of-register rest other =
-      record {
-        eight = λ e. not-true _ (its 8 refl e);
-        nine = λ e. short-or-unmarked b (its 9 refl e);
-        ten = λ e. unequal _ _ (its 10 refl e);
-        eleven = λ e. unequal _ _ (its 11 refl e);
-        twelve = λ e. ltb-true _ _ (its 12 refl e);
-      }
+  abbrev register : Tests
+  register =
+      head b
+      before group (11 on unequal ((length b - 16) % 8) 0 ∷ 12 on below 8190 (entries b) ∷ [])
+      before limits (withinLimits (settingsIn b))
+
+  -- an entry is named where some entry is wrong
+  some-wrong : (n : ℕ) → (firstWrong b n ≡ 0 → ⊥) → SomeWrong b n
+  some-wrong n h = go (firstWrong b n) refl
     where
-      its : (k : ℕ) → within 8 12 k ≡ true → first (register b before rest) ≡ k → testOf k (register b) ≡ true
-      its k w =
-          group-so (λ n. n ≡ k → testOf k (register b) ≡ true) _ _ (given (register b) k)
-          (λ h. absurd (false≢true (ap not (sym w) ∙ subst (λ (n : ℕ). not (within 8 12 n) ≡ true) h (each _ rest other))))
+      go : (m : ℕ) → firstWrong b n ≡ m → SomeWrong b n
+      go zero e = absurd (h e)
+      go (suc j) e = let named = names-first b n j e in (j, named .0, named .1)
 
-  abbrev replayed : ℕ → Tests
-  replayed n = 13 on not (eqb (firstWrong b n) 0) else none
+  pub wrong-named : (n : ℕ) → SomeWrong b n → firstWrong b n ≡ 0 → ⊥
+  wrong-named n w e = true≢false (sym (none-wrong b n e (w .0) (w .1)) ∙ w .2)
 
-  pub stated-reading : OfReading b
+  abbrev replayed : ℕ → Row
+  replayed n = 13 on in-words (unequal (firstWrong b n) 0) (some-wrong n) (wrong-named n)
+
+  pub stated-reading : GivenExactly (ofReading b) (readOf b .answer)
   unfolding readOf readingOf readAnswer registerAnswer headAnswer lengthAnswer settingsAnswer
-  stated-reading =
-      let tests = register b before replayed (entries b) in
-      record {
-        number = each (oneOf (0 ∷ 8 ∷ 9 ∷ 10 ∷ 11 ∷ 12 ∷ 13 ∷ [])) tests refl;
-        register = of-register (replayed (entries b)) refl;
-        thirteen = λ e. unequal _ _ (given tests 13 e);
-      }
+  stated-reading = exactly (register before group (replayed (entries b) ∷ [])) refl
 
-  pub stated-stepping : (k : ℕ) → OfStepping b k
+  pub stated-stepping : (k : ℕ) → GivenExactly (ofStepping b k) (stepOf b k .answer)
   unfolding stepOf readingOf stepAnswer registerAnswer headAnswer lengthAnswer settingsAnswer
-  stated-stepping k =
-      let rest = (14 on ltb (entries b) k else none) before replayed k in
-      record {
-        number = each (oneOf (0 ∷ 8 ∷ 9 ∷ 10 ∷ 11 ∷ 12 ∷ 13 ∷ 14 ∷ [])) (register b before rest) refl;
-        register = of-register rest refl;
-        thirteen = λ e. unequal _ _ (given (register b before rest) 13 e);
-        fourteen = λ e. ltb-true _ _ (given (register b before rest) 14 e);
-      }
+  stated-stepping k = exactly (register before group (14 on below (entries b) k ∷ []) before group (replayed k ∷ [])) refl
 
-  pub stated-handing-back : (k : ℕ) → OfHandingBack b k
+  pub stated-handing-back : (k : ℕ) → GivenExactly (ofHandingBack b k) (entryAnswer b k)
   unfolding entryAnswer registerAnswer headAnswer lengthAnswer settingsAnswer
-  stated-handing-back k =
-      let rest = 14 on eqb k 0 || ltb (entries b) k else none in
-      record {
-        number = each (oneOf (0 ∷ 8 ∷ 9 ∷ 10 ∷ 11 ∷ 12 ∷ 14 ∷ [])) (register b before rest) refl;
-        register = of-register rest refl;
-        fourteen = λ e. either _ _ (eqb-true _ _) (ltb-true _ _) (given (register b before rest) 14 e);
-      }
+  stated-handing-back k = exactly (register before group (14 on equal k 0 or below (entries b) k ∷ [])) refl

@@ -1,12 +1,11 @@
 -- Document 01, "What the station is": tracks beyond the station's number are neither read nor changed.
 use mathlib.Core.Path.{_≡_}
-use Rattle.rules.specs.Station.{live}
+use mathlib.Core.List.{[]}
+use Rattle.rules.specs.Station.{live, withTracks}
 use Rattle.rules.specs.declared.Station.{Station}
 
--- Two stations are the same but for their tracks from the number on, of which they may even have more or fewer.
+-- Two stations are the same but for their tracks from the number on, of which they may even have more or fewer: with no tracks they are one station,
+-- so that every other part of them is the same, and the tracks below the number are the same.
 pub record Agree (s t : Station) : Type 0 where
-  pub settings : s .settings ≡ t .settings
+  pub others : withTracks s [] ≡ withTracks t []
   pub live : live s ≡ live t
-  pub hold : s .hold ≡ t .hold
-  pub fault : s .fault ≡ t .fault
-  pub conditions : s .conditions ≡ t .conditions

@@ -1,8 +1,10 @@
 pub mod Agree
 pub mod BrowseBack
 pub mod BrowseRows
+pub mod Exactly
 pub mod Idle
 pub mod Quiet
 pub mod QuietRows
 pub mod ReadBack
+pub mod Refusal
 pub mod Stated
