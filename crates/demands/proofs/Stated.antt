@@ -9,7 +9,7 @@ use mathlib.Core.List.{List, [], _∷_}
 use borrow.Author.Tests.{not-false}
 use lib.ListN.{length}
 use Rattle.chains.proofs.Chains.{both-done, neither, passed, same-order}
-use Rattle.demands.proofs.Exactly.{Row, Tells, Tests, at-most, below, equal, exactly, group, in-words, is, isnt, unequal, _and_, _before_, _on_, _or_}
+use Rattle.demands.proofs.Exactly.{Row, Tests, at-most, below, equal, exactly, group, in-words, is, isnt, unequal, _and_, _before_, _on_, _or_}
 use Rattle.demands.specs.Exactly.{GivenExactly}
 use Rattle.demands.specs.Stated.{SomeWrong, ofAppending, ofHandingBack, ofLimits, ofReading, ofStarting, ofStepping, ofTaking}
 use Rattle.register.proofs.FirstWrong.{names-first, none-wrong}
