@@ -1,5 +1,4 @@
 pub mod Below
-pub mod FreeTracks
 pub mod Islands
 pub mod UpperLimits
 pub mod Listed

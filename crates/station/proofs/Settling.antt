@@ -21,7 +21,7 @@ use Rattle.rules.specs.Words.{any, count}
 use Rattle.rules.specs.declared.Settings.{Settings}
 use Rattle.rules.specs.declared.Station.{Station}
 use Rattle.rules.specs.declared.Track.{Track}
-use Rattle.station.proofs.Timing.{riskOf}
+use Rattle.station.specs.Survey.{risky, surveyOf}
 
 -- ---- ticks add up, and read no head condition
 
@@ -79,9 +79,9 @@ module _ (s : Station) where
   module _ (limit : (z : Zone) → timer c z ≤ 65535) where
     -- The condition, once every island is held, stays false.
     pub no-risk-then : (n : ℕ) → ((z : Zone) → timer c z ≤ n) → greatestRisk (ticks n s) ≡ false
-    unfolding greatestRisk
+    unfolding greatestRisk surveyOf
     no-risk-then n long =
-        ap₂ riskOf (ticks-settings n s) (ticks-live n s)
+        ap₂ (λ (d : Settings) (l : List Track). risky (surveyOf d l)) (ticks-settings n s) (ticks-live n s)
         ∙ ap (λ (b : Bool). b && leb 2 (count (present c) (map (laterTrack n) (live s))))
         (any-map (laterTrack n) (someFresh c) (live s) ∙ any-none _ (λ t. no-fresh-then c n t limit long) (live s))
 

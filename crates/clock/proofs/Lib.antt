@@ -1,0 +1,4 @@
+pub mod FreeTracks
+pub mod Turned
+pub mod Timetables
+pub mod ByTimetable
