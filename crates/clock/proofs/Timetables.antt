@@ -20,7 +20,7 @@ use Rattle.islands.specs.Turns.{laterTrack}
 use Rattle.rules.specs.Aspect.{present, someFresh}
 use Rattle.rules.specs.Reports.{late}
 use Rattle.rules.specs.Station.{Zone, someOccupied, timer}
-use Rattle.rules.specs.Words.{any, count}
+use Rattle.rules.specs.Words.{count}
 use Rattle.rules.specs.declared.Settings.{Settings}
 use Rattle.rules.specs.declared.Track.{Track}
 

@@ -1,4 +1,4 @@
-// The hold, tick by tick. Nothing else has to be walked: when the condition is true is known beforehand.
+// The hold, tick by tick: the timetable tells beforehand when the condition is true.
 ghost use mathlib.Core.Path.{_≡_};
 ghost use Rattle.clock.specs.Hold.{holdAfter, lowered as Hold·lowered};
 ghost use Rattle.clock.specs.Timetable.{riskAt};

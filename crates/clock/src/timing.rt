@@ -1,5 +1,4 @@
-// When the signs of the tracks turn: the timetable by which a clock report's ticks are walked. A track
-// with no island occupied is passed over.
+// When the signs of the tracks turn: the timetable by which a clock report's ticks are walked.
 ghost use mathlib.Core.Path.{_≡_};
 ghost use lib.ListN.{take};
 ghost use Rattle.clock.specs.Timetable.{Timed, riskAt, withTurns};
@@ -11,8 +10,8 @@ use crate::turning::turns_of;
 use rules::Settings;
 use rules::Track;
 
-// Until when a track has a fresh approaching island, from when
-// one track counts for the greatest risk, from when two do, and from when the fault latches.
+// In ticks from now: until when a track has a fresh approaching island, from when one track counts for
+// the greatest risk, from when two do, and from when the fault latches.
 pub(crate) struct Timetable {
     pub fresh: u32,
     pub first: u32,
@@ -20,7 +19,7 @@ pub(crate) struct Timetable {
     pub late: u32,
 }
 
-// The timetable of the tracks below the station's number.
+// The timetable of the tracks below the station's number. A track with no island occupied is passed over.
 pub(crate) fn timetable_of(settings: Settings, tracks: [Track; 4]) -> Timetable
     ensures { λ r. ⌜ Timed settings (take (settings .tracks) tracks) r ⌝ }
 {

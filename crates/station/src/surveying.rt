@@ -67,9 +67,7 @@ pub fn hold_set(station: Station) -> Station
     let tracks = station.tracks;
     let risk = greatest_risk(settings, tracks);
     let mut next = station;
-    if risk {
-        next.hold = settings.t4;
-    }
+    next.hold = islands::held_up(risk, settings.t4, station.hold);
     next
 }
 
