@@ -9,12 +9,12 @@ use mathlib.Core.List.{List, _++_, map}
 use borrow.Author.Tests.{le-leb, leb-true, lt-ltb}
 use lib.Dec.{leb, ltb}
 use lib.ListN.{take-append-drop}
+use Rattle.clock.proofs.Ages.{tracks-now, tracks-older}
+use Rattle.clock.specs.Ages.{laterTrack}
 use Rattle.clock.specs.Hold.{holdAfter, lowered}
 use Rattle.clock.specs.Timetable.{Timed, riskAt}
 use Rattle.clock.specs.declared.timing.Timetable.{Timetable}
 use Rattle.islands.proofs.Below.{any-map, changed, changed-drop, changed-take, count-map}
-use Rattle.islands.proofs.Turned.{tracks-now, tracks-older}
-use Rattle.islands.specs.Turns.{laterTrack}
 use Rattle.rules.specs.Aspect.{greatestRisk, present, someFresh}
 use Rattle.rules.specs.Reports.{allOlder, faultLatched, holdLowered, holdSet, late, olderTrack, tick, ticks}
 use Rattle.rules.specs.Station.{beyond, live, withFault, withHold, withTracks}

@@ -4,8 +4,8 @@ use Prim.Native.Nat.{ℕ}
 use mathlib.Core.Path.{_≡_, refl, sym, ap, ap₂}
 use mathlib.Core.Bool.{Bool, true, false, _||_, and-false, false≢true}
 use mathlib.Core.List.{List, [], _∷_, map}
-use Rattle.islands.proofs.Turned.{later-free}
-use Rattle.islands.specs.Turns.{later, laterTrack}
+use Rattle.clock.proofs.Ages.{later-free}
+use Rattle.clock.specs.Ages.{later, laterTrack}
 use Rattle.rules.specs.Aspect.{present, someFresh}
 use Rattle.rules.specs.Reports.{late}
 use Rattle.rules.specs.Station.{Zone, someOccupied, zones}

@@ -11,12 +11,12 @@ use lib.Dec.{leb}
 use lib.ListN.{length, getD, take}
 use Rattle.clock.proofs.FreeTracks.{no-fresh, no-late, no-later, no-present}
 use Rattle.clock.proofs.Turned.{below-greater, from-both, from-lesser, turning}
+use Rattle.clock.specs.Ages.{laterTrack}
 use Rattle.clock.specs.Timetable.{Timed, withTurns}
 use Rattle.clock.specs.Turns.{Turning, never, turnsOf}
 use Rattle.clock.specs.declared.timing.Timetable.{Timetable}
 use Rattle.clock.specs.declared.turning.Turns.{Turns}
 use Rattle.islands.proofs.Below.{any-more, count-more}
-use Rattle.islands.specs.Turns.{laterTrack}
 use Rattle.rules.specs.Aspect.{present, someFresh}
 use Rattle.rules.specs.Reports.{late}
 use Rattle.rules.specs.Station.{Zone, someOccupied, timer}

@@ -9,10 +9,10 @@ use mathlib.Core.Bool.{Bool, true, false, cond, not, _&&_, _||_, or-false, or-tr
 use mathlib.Core.List.{List, [], _∷_, map}
 use borrow.Author.Tests.{le-leb, lt-leb, lt-ltb, le-ltb}
 use lib.Dec.{leb, ltb, leb·zero}
+use Rattle.clock.proofs.Ages.{aged, later-is, reach, same-test}
+use Rattle.clock.specs.Ages.{later, laterTrack}
 use Rattle.clock.specs.Turns.{Turning, allTurns, never, noTurns, together, turnsIn, turnsOf}
 use Rattle.clock.specs.declared.turning.Turns.{Turns}
-use Rattle.islands.proofs.Turned.{aged, later-is, reach, same-test}
-use Rattle.islands.specs.Turns.{later, laterTrack}
 use Rattle.rules.specs.Aspect.{freshApproaching, held, present, someFresh}
 use Rattle.rules.specs.Reports.{late}
 use Rattle.rules.specs.Station.{Zone, approaching, goingAway, isWarning, timer, zones}

@@ -5,9 +5,9 @@ use mathlib.Core.Path.{_≡_}
 use mathlib.Core.Bool.{Bool, _&&_}
 use mathlib.Core.List.{List}
 use lib.Dec.{leb, ltb}
+use Rattle.clock.specs.Ages.{laterTrack}
 use Rattle.clock.specs.declared.timing.Timetable.{Timetable}
 use Rattle.clock.specs.declared.turning.Turns.{Turns}
-use Rattle.islands.specs.Turns.{laterTrack}
 use Rattle.rules.specs.Aspect.{present, someFresh}
 use Rattle.rules.specs.Reports.{late}
 use Rattle.rules.specs.Words.{any, count}

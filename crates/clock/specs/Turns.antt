@@ -5,8 +5,8 @@ use mathlib.Core.Path.{_≡_}
 use mathlib.Core.Bool.{Bool, cond, _&&_, _||_}
 use mathlib.Core.List.{List, [], _∷_}
 use lib.Dec.{leb, ltb}
+use Rattle.clock.specs.Ages.{laterTrack}
 use Rattle.clock.specs.declared.turning.Turns.{Turns}
-use Rattle.islands.specs.Turns.{laterTrack}
 use Rattle.rules.specs.Aspect.{present, someFresh}
 use Rattle.rules.specs.Reports.{late}
 use Rattle.rules.specs.Station.{Zone, approaching, goingAway, isWarning, timer, zones}

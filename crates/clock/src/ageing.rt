@@ -3,7 +3,7 @@ ghost use mathlib.Core.Path.{_≡_};
 ghost use mathlib.Core.List.{_++_, map};
 ghost use lib.ListN.{drop, take};
 ghost use Prim.Native.Nat.{_+_, min};
-ghost use Rattle.islands.specs.Turns.{later as Turns·later, laterTrack};
+ghost use Rattle.clock.specs.Ages.{later as Ages·later, laterTrack};
 use rules::Island;
 use rules::Settings;
 use rules::Track;
@@ -43,7 +43,7 @@ pub fn later_track(track: Track, n: u16) -> Track
 }
 
 fn later(island: Island, n: u16) -> Island
-    ensures { λ r. ⌜ r ≡ Turns·later n island ⌝ }
+    ensures { λ r. ⌜ r ≡ Ages·later n island ⌝ }
 {
     let mut next = island;
     if island.occupied {

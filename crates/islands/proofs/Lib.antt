@@ -3,5 +3,3 @@ pub mod Islands
 pub mod UpperLimits
 pub mod Listed
 pub mod SeenIslands
-pub mod Settled
-pub mod Turned

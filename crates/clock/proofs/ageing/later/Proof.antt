@@ -1,6 +1,6 @@
 -- `later`: an occupied island of n ticks later, in one step; a free one stays.
 -- Assumes nothing.
-use Rattle.islands.proofs.Turned.{later-occupied, later-free}
+use Rattle.clock.proofs.Ages.{later-occupied, later-free}
 use borrow.Author.Needs.{needs}
 use Rattle.clock.proofs.ageing.later.Statement.{statement}
 use Rattle.clock.proofs.ageing.later.Tie as tie

@@ -3,9 +3,9 @@
 use mathlib.Core.Path.{_≡_}
 use mathlib.Core.List.{[], _∷_}
 use lib.ListN.{length}
+use Rattle.clock.specs.Ages.{laterTrack}
 use Rattle.islands.proofs.Islands.{whole}
 use Rattle.islands.proofs.Listed.{counted}
-use Rattle.islands.specs.Turns.{laterTrack}
 use borrow.Author.Needs.{needs}
 use Rattle.clock.proofs.ageing.later_track.Statement.{statement}
 use Rattle.clock.proofs.ageing.later_track.Tie as tie

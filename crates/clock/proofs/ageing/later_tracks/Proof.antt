@@ -7,10 +7,10 @@ use mathlib.Core.List.{[]}
 use lib.ListN.{length, length-set}
 use borrow.Author.Needs.{needs}
 use native.Mathlib.Omega.{arith}
-use Rattle.islands.proofs.Listed.{counted}
 use Rattle.clock.proofs.FreeTracks.{no-later}
+use Rattle.clock.specs.Ages.{laterTrack}
 use Rattle.islands.proofs.Below.{changed, changed-least, changed-next, changed-skip}
-use Rattle.islands.specs.Turns.{laterTrack}
+use Rattle.islands.proofs.Listed.{counted}
 use Rattle.clock.proofs.ageing.later_tracks.Statement.{statement}
 use Rattle.clock.proofs.ageing.later_tracks.Tie as tie
 

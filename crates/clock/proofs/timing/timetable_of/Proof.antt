@@ -7,13 +7,13 @@ use mathlib.Core.List.{List, []}
 use lib.ListN.{length, take}
 use borrow.Author.Needs.{needs}
 use native.Mathlib.Omega.{arith}
+use Rattle.clock.proofs.Timetables.{timed-next, timed-none, timed-skip}
+use Rattle.clock.specs.Timetable.{Timed}
 use Rattle.islands.proofs.Below.{take-least}
 use Rattle.islands.proofs.Listed.{counted}
-use Rattle.islands.proofs.Turned.{timers}
+use Rattle.islands.proofs.UpperLimits.{timers}
 use Rattle.rules.specs.declared.Track.{Track}
-use Rattle.clock.proofs.Timetables.{timed-next, timed-none, timed-skip}
 use Rattle.clock.proofs.timing.timetable_of.Statement.{statement}
-use Rattle.clock.specs.Timetable.{Timed}
 use Rattle.clock.proofs.timing.timetable_of.Tie as tie
 
 abbrev Inv-loop : tie.InvT-loop

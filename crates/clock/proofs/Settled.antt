@@ -9,10 +9,10 @@ use mathlib.Core.List.{List, [], _∷_, map}
 use borrow.Author.Tests.{le-leb}
 use lib.Dec.{leb}
 use lib.ListN.{length}
+use Rattle.clock.proofs.Ages.{aged, later-is, reach}
+use Rattle.clock.specs.Ages.{later, laterTrack}
 use Rattle.islands.proofs.Below.{any-alike, any-map, or-both}
 use Rattle.islands.proofs.Listed.{listed}
-use Rattle.islands.proofs.Turned.{aged, later-is, reach}
-use Rattle.islands.specs.Turns.{later, laterTrack}
 use Rattle.rules.specs.Aspect.{freshAdvance, freshApproaching, freshNear, held, someFresh, someHeld}
 use Rattle.rules.specs.Reports.{late}
 use Rattle.rules.specs.Station.{Zone, anyIsland, free, isAdvance, isWarning, someOccupied, timer, zones}

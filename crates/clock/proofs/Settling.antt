@@ -10,10 +10,10 @@ use mathlib.Core.Bool.{Bool, true, false, cond, not, _&&_, _||_, or-assoc}
 use mathlib.Core.List.{List, map}
 use borrow.Author.Tests.{ltb-true, ltb-false}
 use lib.Dec.{leb, ltb}
+use Rattle.clock.proofs.Ages.{tracks-now, tracks-older}
+use Rattle.clock.proofs.Settled.{late-at-last, late-if-occupied, no-fresh-then, occupiedIn}
+use Rattle.clock.specs.Ages.{laterTrack}
 use Rattle.islands.proofs.Below.{any-alike, any-map, any-none, any-only, changed-take}
-use Rattle.islands.proofs.Settled.{late-at-last, late-if-occupied, no-fresh-then, occupiedIn}
-use Rattle.islands.proofs.Turned.{tracks-now, tracks-older}
-use Rattle.islands.specs.Turns.{laterTrack}
 use Rattle.rules.specs.Aspect.{greatestRisk, present, someFresh}
 use Rattle.rules.specs.Reports.{allOlder, faultLatched, holdLowered, holdSet, late, olderTrack, tick, ticks}
 use Rattle.rules.specs.Station.{Zone, isWarning, live, timer, withConditions}
@@ -21,7 +21,6 @@ use Rattle.rules.specs.Words.{any, count}
 use Rattle.rules.specs.declared.Settings.{Settings}
 use Rattle.rules.specs.declared.Station.{Station}
 use Rattle.rules.specs.declared.Track.{Track}
-use Rattle.station.specs.Survey.{risky, surveyOf}
 
 -- ---- ticks add up, and read no head condition
 
@@ -79,11 +78,12 @@ module _ (s : Station) where
   module _ (limit : (z : Zone) → timer c z ≤ 65535) where
     -- The condition, once every island is held, stays false.
     pub no-risk-then : (n : ℕ) → ((z : Zone) → timer c z ≤ n) → greatestRisk (ticks n s) ≡ false
-    unfolding greatestRisk surveyOf
+    unfolding greatestRisk
     no-risk-then n long =
-        ap₂ (λ (d : Settings) (l : List Track). risky (surveyOf d l)) (ticks-settings n s) (ticks-live n s)
-        ∙ ap (λ (b : Bool). b && leb 2 (count (present c) (map (laterTrack n) (live s))))
-        (any-map (laterTrack n) (someFresh c) (live s) ∙ any-none _ (λ t. no-fresh-then c n t limit long) (live s))
+        ap (λ (b : Bool). b && leb 2 (count (present (ticks n s .settings)) (live (ticks n s))))
+        (ap₂ (λ (d : Settings) (l : List Track). any (someFresh d) l) (ticks-settings n s) (ticks-live n s)
+        ∙ any-map (laterTrack n) (someFresh c) (live s)
+        ∙ any-none _ (λ t. no-fresh-then c n t limit long) (live s))
 
     -- It falls by one at each tick since.
     pub hold-falls : (slow : ℕ) → ((z : Zone) → timer c z ≤ slow) → s .hold ≤ c .t4 → (n : ℕ) → ticks n s .hold ≤ c .t4 - (n - slow)

@@ -9,11 +9,9 @@ use mathlib.Core.Bool.{Bool, true, false, cond}
 use mathlib.Core.List.{List, [], _∷_, map}
 use borrow.Author.Tests.{le-leb, lt-leb}
 use lib.Dec.{leb}
-use Rattle.islands.specs.Turns.{later, laterTrack}
+use Rattle.clock.specs.Ages.{later, laterTrack}
 use Rattle.rules.specs.Reports.{older, olderTrack}
-use Rattle.rules.specs.Station.{Zone, advance, crossing, timer, warning}
 use Rattle.rules.specs.declared.Island.{Island}
-use Rattle.rules.specs.declared.Settings.{Settings}
 use Rattle.rules.specs.declared.Track.{Track}
 
 -- two tests of one order
@@ -79,12 +77,6 @@ pub reach : (n a timer : ℕ) → timer ≤ 65535 → leb timer (aged n a) ≡ l
 reach zero a timer h = ap (leb timer) (sym (add-zero a))
 reach (suc n) a timer h =
     ap (leb timer) (aged-some n a) ∙ same-test timer (min 65535 (a + suc n)) timer (a + suc n) (λ k. omega arith) (λ k. omega arith)
-
--- the timers' bounds, zone by zone
-pub timers : (c : Settings) → c .t1 ≤ 65535 → c .t2 ≤ 65535 → c .t3 ≤ 65535 → (z : Zone) → timer c z ≤ 65535
-timers c h1 h2 h3 advance = h1
-timers c h1 h2 h3 warning = h2
-timers c h1 h2 h3 crossing = h3
 
 -- ---- tracks later
 
