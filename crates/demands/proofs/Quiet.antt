@@ -1,5 +1,5 @@
 -- Demand 3, stated in specs/Quiet: no lamp is stuck. On a reached station a quiet list of reports does what its ticks do, one after the other, but for
--- the head conditions; and what so many ticks come to is said of each part in `station/proofs/Settling`.
+-- the head conditions; and what so many ticks come to is said of each part in `clock/proofs/Settling`.
 -- Assumes nothing.
 use Prim.Native.Nat.{ℕ, zero, suc, _+_, _≤_}
 use native.Mathlib.Omega.{arith}
@@ -9,13 +9,14 @@ use mathlib.Core.List.{List, [], _∷_, _++_, map}
 use borrow.Author.Tests.{eq-eqb, eqb-true, le-ltb, leb-true}
 use lib.Dec.{leb, ltb}
 use Rattle.chains.proofs.Chains.{both}
+use Rattle.clock.proofs.Settled.{all-held-then, no-advance-then, no-near-then, occupied-still, occupied-still-in}
+use Rattle.clock.proofs.Settling.{fault-then, hold-falls, no-risk-then, ticks-add, ticks-conditions, ticks-live, ticks-settings}
+use Rattle.clock.specs.Ages.{laterTrack}
 use Rattle.demands.proofs.ApartLaws.{aspectIn, refused-keeps}
 use Rattle.demands.proofs.Reached.{Kept, kept-after, reached-keeps}
 use Rattle.demands.specs.Quiet.{NotStuck, Quiet, Reached, accepted, afterAll, clockGone, greatest, isClock, isHead, longEnough, settled, warningOccupied}
 use Rattle.islands.proofs.Below.{any-alike, any-map, any-none}
-use Rattle.islands.proofs.Settled.{all-held-then, no-advance-then, no-near-then, occupied-still, occupied-still-in}
-use Rattle.islands.proofs.Turned.{timers}
-use Rattle.islands.specs.Turns.{laterTrack}
+use Rattle.islands.proofs.UpperLimits.{timers}
 use Rattle.reports.proofs.FiveIslands.{Five, five-take}
 use Rattle.reports.proofs.Taking.{after-accepted, meant}
 use Rattle.rules.specs.Answers.{answerOf, stationAfter}
@@ -28,7 +29,6 @@ use Rattle.rules.specs.declared.Report.{Report}
 use Rattle.rules.specs.declared.Settings.{Settings}
 use Rattle.rules.specs.declared.Station.{Station}
 use Rattle.rules.specs.declared.Track.{Track}
-use Rattle.station.proofs.Settling.{fault-then, hold-falls, no-risk-then, ticks-add, ticks-conditions, ticks-live, ticks-settings}
 
 -- ---- a quiet list of reports does what its ticks do
 

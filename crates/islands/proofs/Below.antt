@@ -6,7 +6,7 @@ use native.Mathlib.Decide.{decLe}
 use native.Mathlib.Numerals.{add-one}
 use native.Mathlib.Omega.{arith}
 use mathlib.Core.Path.{_≡_, refl, sym, ap, ap₂, _∙_}
-use mathlib.Core.Bool.{Bool, true, false, cond, _||_, false≢true, or-false, or-true, or-assoc}
+use mathlib.Core.Bool.{Bool, true, false, cond, _&&_, _||_, false≢true, or-false, or-true, or-assoc}
 use mathlib.Core.List.{List, [], _∷_, _++_, map, map-append, append-assoc}
 use lib.ListN.{length, getD, take, drop, set, length-map, drop-of-length-le}
 use lib.Seq.{take-suc, take-all, drop-cons, set-at, length-take-le, getD-at, set-getD}
@@ -21,6 +21,11 @@ or-both true b true d e f = refl
 or-both true b false d e f = absurd (false≢true (sym e))
 or-both false b true d e f = or-true b
 or-both false b false d e f = f
+
+pub second : (a b : Bool) → a && b ≡ true → b ≡ true
+second true b e = e
+second false true e = refl
+second false false e = e
 
 module _ {A : Type 0} (p : A → Bool) where
   pub any-append : (xs ys : List A) → any p (xs ++ ys) ≡ any p xs || any p ys

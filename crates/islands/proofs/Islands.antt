@@ -3,10 +3,9 @@
 use Prim.Native.Nat.{ℕ, zero, suc}
 use mathlib.Core.Path.{_≡_, refl, sym, ap, _∙_}
 use mathlib.Core.Bool.{Bool, false, _||_, or-false}
-use mathlib.Core.List.{List, [], _∷_}
+use mathlib.Core.List.{List}
 use lib.ListN.{length}
 use Rattle.islands.proofs.Listed.{listed, tabulate}
-use Rattle.islands.specs.Turns.{later, laterTrack}
 use Rattle.rules.specs.Reports.{leavingMark}
 use Rattle.rules.specs.Station.{Zone, advance, anyIsland, crossing, free, islandAt, warning}
 use Rattle.rules.specs.Words.{any}
@@ -42,14 +41,3 @@ never-leaving t (suc (suc zero)) a b d e = refl
 never-leaving t (suc (suc (suc zero))) a b d e = absurd (d refl)
 never-leaving t (suc (suc (suc (suc zero)))) a b d e = absurd (e refl)
 never-leaving t (suc (suc (suc (suc (suc k))))) a b d e = refl
-
--- five islands, each n ticks later
-pub later-five : (n : ℕ) (t : Track) (r0 r1 r2 r3 r4 : Island) → length (t .islands) ≡ 5
-    → r0 ≡ later n (islandAt t 0)
-    → r1 ≡ later n (islandAt t 1)
-    → r2 ≡ later n (islandAt t 2)
-    → r3 ≡ later n (islandAt t 3)
-    → r4 ≡ later n (islandAt t 4)
-    → _≡_ {A = Track} (record { islands = r0 ∷ r1 ∷ r2 ∷ r3 ∷ r4 ∷ [] }) (laterTrack n t)
-unfolding laterTrack
-later-five n t r0 r1 r2 r3 r4 e e0 e1 e2 e3 e4 = rw (e0, e1, e2, e3, e4) (sym (ap (laterTrack n) (is-five t e)))

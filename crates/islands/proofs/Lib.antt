@@ -1,8 +1,5 @@
 pub mod Below
-pub mod FreeTracks
 pub mod Islands
 pub mod UpperLimits
 pub mod Listed
 pub mod SeenIslands
-pub mod Settled
-pub mod Turned

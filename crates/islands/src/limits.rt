@@ -1,5 +1,6 @@
 // Document 01, "What the station is": the settings' limits.
 ghost use mathlib.Core.Path.{_≡_};
+ghost use Prim.Native.Nat.{min};
 ghost use Rattle.rules.specs.Station.{withinLimits};
 use rules::Settings;
 
@@ -14,4 +15,11 @@ pub fn within_limits(settings: Settings) -> bool
         & (1 <= settings.t3)
         & (1 <= settings.t5)
         & (settings.t2 < settings.t5)
+}
+
+// How many tracks there are to go through: a number above four names no more than four.
+pub fn live_tracks(tracks: u8) -> usize
+    ensures { λ r. ⌜ r ≡ min tracks 4 ⌝ }
+{
+    if tracks < 4 { tracks as usize } else { 4 }
 }

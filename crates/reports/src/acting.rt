@@ -22,7 +22,7 @@ pub(crate) fn act(station: Station, report: Report) -> Station
     match kind {
         ISLAND_OCCUPIED => occupied(station, report),
         ISLAND_FREE => freed(station, report),
-        CLOCK => station::clock(station, report.value),
+        CLOCK => clock::ticks(station, report.value),
         DETECTOR_FAILED => failed(station, report),
         DETECTOR_RESTORED => restored(station, report),
         HEAD_CONDITION => conditioned(station, report),

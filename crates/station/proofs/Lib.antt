@@ -1,5 +1,3 @@
-pub mod Settling
 pub mod ShownLaws
 pub mod Stations
 pub mod Surveys
-pub mod Timing

@@ -2,7 +2,7 @@
 -- Assumes nothing.
 use Prim.Native.Nat.{ℕ}
 use mathlib.Core.Path.{_≡_, refl, sym, ap, _∙_}
-use mathlib.Core.Bool.{Bool, true, false, cond, _&&_}
+use mathlib.Core.Bool.{Bool, cond}
 use borrow.Author.Tests.{eq-eqb, ne-eqb}
 use lib.ListN.{take}
 use Rattle.rules.specs.Aspect.{greatestRisk}
@@ -30,8 +30,3 @@ risk-is s = refl
 pub held-up : (s : Station) (b : Bool) → b ≡ risky (surveyOf (s .settings) (take (s .settings .tracks) (s .tracks))) → withHold s (cond b (s .settings .t4) (s .hold)) ≡ holdSet s
 unfolding holdSet
 held-up s b e = ap (λ (r : Bool). withHold s (cond r (s .settings .t4) (s .hold))) (e ∙ risk-is s)
-
-pub second : (a b : Bool) → a && b ≡ true → b ≡ true
-second true b e = e
-second false true e = refl
-second false false e = e

@@ -1,9 +1,8 @@
-// A station: how it is made, what it shows, and what the clock does to it.
+// A station: how it is made, what it shows, and how one thing of it is changed.
 mod changing;
 mod making;
 mod showing;
 mod surveying;
-mod ticking;
 
 pub use changing::track_at;
 pub use changing::with_condition;
@@ -20,7 +19,6 @@ pub use showing::settle;
 pub use showing::zones;
 pub use surveying::hold_set;
 pub use surveying::is_obstructed;
-pub use ticking::clock;
 
 // What an accepted report leaves of the hold, and the aspect then.
 pub struct Settled {

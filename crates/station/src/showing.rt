@@ -12,10 +12,8 @@ ghost use Rattle.rules.specs.Words.{any, _if_then_};
 ghost use Rattle.station.specs.Settled.{settledOf};
 use crate::Settled;
 use crate::changing::track_at;
-use crate::surveying::live_tracks;
 use crate::surveying::look_over;
 use crate::surveying::risk_in;
-use crate::ticking::held_up;
 use rules::CLEARING;
 use rules::FORBIDDEN;
 use rules::GREATEST_RISK;
@@ -60,7 +58,7 @@ pub fn settle(station: Station) -> Settled
     let tracks = station.tracks;
     let seen = look_over(settings, tracks);
     let risk = risk_in(seen);
-    let hold = held_up(risk, settings.t4, station.hold);
+    let hold = islands::held_up(risk, settings.t4, station.hold);
     let line = first_line(out, risk | (0 < hold), seen.near, seen.ahead, seen.held);
     Settled { hold, aspect: line }
 }
@@ -135,7 +133,7 @@ fn digit(occupied: bool) -> u8
 fn occupied_zones(settings: Settings, tracks: [Track; 4]) -> [bool; 5]
     ensures { λ r. ⌜ r ≡ map (λ k. any (λ t. islandAt t k .occupied) (take (settings .tracks) tracks)) (0 ∷ 1 ∷ 2 ∷ 3 ∷ 4 ∷ []) ⌝ }
 {
-    let live = live_tracks(settings.tracks);
+    let live = islands::live_tracks(settings.tracks);
     let mut occupied = [false, false, false, false, false];
     let mut j: usize = 0;
     while j < live {

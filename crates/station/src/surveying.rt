@@ -1,6 +1,5 @@
 // Document 01, "From islands to aspect": the signs of the tracks below the station's number.
 ghost use mathlib.Core.Path.{_≡_};
-ghost use Prim.Native.Nat.{min};
 ghost use lib.ListN.{take};
 ghost use Rattle.rules.specs.Reports.{holdSet};
 ghost use Rattle.rules.specs.Station.{obstructed};
@@ -21,7 +20,7 @@ pub(crate) struct Survey {
 pub(crate) fn look_over(settings: Settings, tracks: [Track; 4]) -> Survey
     ensures { λ r. ⌜ r ≡ surveyOf settings (take (settings .tracks) tracks) ⌝ }
 {
-    let live = live_tracks(settings.tracks);
+    let live = islands::live_tracks(settings.tracks);
     let mut fresh = false;
     let mut present: u8 = 0;
     let mut near = false;
@@ -46,13 +45,6 @@ pub(crate) fn look_over(settings: Settings, tracks: [Track; 4]) -> Survey
     }
 }
 
-// How many tracks there are to go through: a number above four names no more than four.
-pub(crate) fn live_tracks(tracks: u8) -> usize
-    ensures { λ r. ⌜ r ≡ min tracks 4 ⌝ }
-{
-    if tracks < 4 { tracks as usize } else { 4 }
-}
-
 // The greatest-risk condition.
 pub(crate) fn greatest_risk(settings: Settings, tracks: [Track; 4]) -> bool
     ensures { λ r. ⌜ r ≡ risky (surveyOf settings (take (settings .tracks) tracks)) ⌝ }
@@ -75,9 +67,7 @@ pub fn hold_set(station: Station) -> Station
     let tracks = station.tracks;
     let risk = greatest_risk(settings, tracks);
     let mut next = station;
-    if risk {
-        next.hold = settings.t4;
-    }
+    next.hold = islands::held_up(risk, settings.t4, station.hold);
     next
 }
 
@@ -85,7 +75,7 @@ pub fn hold_set(station: Station) -> Station
 pub fn is_obstructed(station: Station) -> bool
     ensures { λ r. ⌜ r ≡ obstructed station ⌝ }
 {
-    let live = live_tracks(station.settings.tracks);
+    let live = islands::live_tracks(station.settings.tracks);
     let tracks = station.tracks;
     let mut occupied = false;
     let mut failed = false;

@@ -15,8 +15,8 @@ occupied-requires c κs = search needs
 freed-requires : tie.Need-freed-requires
 freed-requires c κs = search needs
 
-clock-requires : tie.Need-clock-requires
-clock-requires c κs = search needs
+ticks-requires : tie.Need-ticks-requires
+ticks-requires c κs = search needs
 
 failed-requires : tie.Need-failed-requires
 failed-requires c κs = search needs
@@ -40,7 +40,7 @@ returns-2 c = c .freed .ensures ∙ sym (meant (c .before .before .args .station
 
 returns-3 : tie.Need-returns-3
 unfolding acted kindOf
-returns-3 c = c .clock .ensures ∙ sym (meant (c .before .before .args .station) (c .before .before .args .report) (c .before .match .keys3))
+returns-3 c = c .ticks .ensures ∙ sym (meant (c .before .before .args .station) (c .before .before .args .report) (c .before .match .keys3))
 
 returns-4 : tie.Need-returns-4
 unfolding kindOf
@@ -70,7 +70,7 @@ act-spec =
     (tie.spec
     occupied-requires
     freed-requires
-    clock-requires
+    ticks-requires
     failed-requires
     restored-requires
     conditioned-requires

@@ -1,0 +1,4 @@
+pub mod Ages
+pub mod Turns
+pub mod Timetable
+pub mod Hold
