@@ -27,7 +27,7 @@ pub(crate) fn later_tracks(settings: Settings, tracks: [Track; 4], n: u16) -> [T
 }
 
 // The track n single ticks later: every occupied island's age has grown by n, stopping at 65,535.
-pub fn later_track(track: Track, n: u16) -> Track
+fn later_track(track: Track, n: u16) -> Track
     ensures { λ r. ⌜ r ≡ laterTrack n track ⌝ }
 {
     let islands = track.islands;

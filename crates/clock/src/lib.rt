@@ -6,5 +6,4 @@ mod ticking;
 mod timing;
 mod turning;
 
-pub use ageing::later_track;
 pub use ticking::ticks;

@@ -31,8 +31,8 @@ pub(crate) fn lines() {
 fn busy_station() -> Station {
     let rising = after(after(two_trains(), condition(0, 8)), condition(1, 64));
     let blind = after(after(rising, clock(7)), failed(1, 2));
-    let third = clock::later_track(station::track_at(blind, 0), 3);
-    let fourth = clock::later_track(station::track_at(blind, 1), 9);
+    let third = station::track_at(after(blind, clock(3)), 0);
+    let fourth = station::track_at(after(blind, clock(9)), 1);
     station::with_track(station::with_track(blind, 2, third), 3, fourth)
 }
 
