@@ -55,7 +55,7 @@ fn form_answer(report: Report) -> u8
 fn known(kind: u8) -> bool
     ensures { λ r. ⌜ r ≡ Answers·known (kindOf kind) ⌝ }
 {
-    (1 <= kind) & (kind <= 7)
+    (ISLAND_OCCUPIED <= kind) & (kind <= NORMALISE)
 }
 
 fn wrong_fields(report: Report) -> bool
@@ -79,7 +79,7 @@ fn place_answer(station: Station, report: Report) -> u8
     if no_track {
         return NO_SUCH_TRACK;
     }
-    let no_head = (report.kind == 6) & (1 < report.a);
+    let no_head = (report.kind == HEAD_CONDITION) & (1 < report.a);
     if no_head {
         return NO_SUCH_HEAD;
     }
@@ -88,10 +88,13 @@ fn place_answer(station: Station, report: Report) -> u8
 }
 
 // Whether a report of this kind names a track and an island.
-pub fn names_island(kind: u8) -> bool
+pub(crate) fn names_island(kind: u8) -> bool
     ensures { λ r. ⌜ r ≡ namesIsland (kindOf kind) ⌝ }
 {
-    (kind == 1) | (kind == 2) | (kind == 4) | (kind == 5)
+    (kind == ISLAND_OCCUPIED)
+        | (kind == ISLAND_FREE)
+        | (kind == DETECTOR_FAILED)
+        | (kind == DETECTOR_RESTORED)
 }
 
 // 6 or 7: what the station as it is refuses.
@@ -99,7 +102,7 @@ fn state_answer(station: Station, report: Report) -> u8
     ensures { λ r. ⌜ r ≡ stateAnswer station report ⌝ }
 {
     let kind = report.kind;
-    if kind == 7 {
+    if kind == NORMALISE {
         let busy = station::is_obstructed(station);
         return if busy { NOT_CLEAR } else { DONE };
     }
