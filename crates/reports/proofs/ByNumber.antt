@@ -6,6 +6,7 @@ use mathlib.Core.Path.{_≡_, refl}
 use mathlib.Core.Bool.{false, not, _&&_, _||_}
 use borrow.Author.Tests.{ne-eqb}
 use lib.Dec.{eqb}
+use Rattle.reports.specs.Placed.{latches}
 use Rattle.rules.specs.Answers.{already, blocked, namesHead, namesIsland, wrongFields}
 use Rattle.rules.specs.Kinds.{kindOf, noKind}
 use Rattle.rules.specs.declared.Island.{Island}
@@ -39,6 +40,10 @@ names-an-island =
 pub names-a-head : (k : ℕ) → eqb k 6 ≡ namesHead (kindOf k)
 unfolding kindOf
 names-a-head = by-number (λ k. eqb k 6 ≡ namesHead (kindOf k)) refl refl refl refl refl refl refl refl (λ k. other k 6 (omega arith))
+
+pub latches-fault : (k : ℕ) → eqb k 4 ≡ latches (kindOf k)
+unfolding kindOf
+latches-fault = by-number (λ k. eqb k 4 ≡ latches (kindOf k)) refl refl refl refl refl refl refl refl (λ k. other k 4 (omega arith))
 
 -- A kind that is no clock, head or normalise has its value alone shown as 0, if it is a kind.
 pub value-alone : (r : Report) (k : ℕ) → (k ≡ 3 → ⊥) → (k ≡ 6 → ⊥) → (k ≡ 7 → ⊥)

@@ -4,3 +4,4 @@ pub mod Taking
 pub mod Accepted
 pub mod FiveIslands
 pub mod Shape
+pub mod Occupying

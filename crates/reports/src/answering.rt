@@ -80,7 +80,7 @@ fn place_answer(station: Station, report: Report) -> u8
     if no_track {
         return NO_SUCH_TRACK;
     }
-    let no_head = (report.kind == 6) & (1 < report.a);
+    let no_head = (report.kind == HEAD_CONDITION) & (1 < report.a);
     if no_head {
         return NO_SUCH_HEAD;
     }
@@ -89,10 +89,13 @@ fn place_answer(station: Station, report: Report) -> u8
 }
 
 // Whether a report of this kind names a track and an island.
-pub fn names_island(kind: u8) -> bool
+pub(crate) fn names_island(kind: u8) -> bool
     ensures { λ r. ⌜ r ≡ namesIsland (kindOf kind) ⌝ }
 {
-    (kind == 1) | (kind == 2) | (kind == 4) | (kind == 5)
+    (kind == ISLAND_OCCUPIED)
+        | (kind == ISLAND_FREE)
+        | (kind == DETECTOR_FAILED)
+        | (kind == DETECTOR_RESTORED)
 }
 
 // 6 or 7: what the station as it is refuses.
@@ -100,7 +103,7 @@ fn state_answer(station: Station, report: Report) -> u8
     ensures { λ r. ⌜ r ≡ stateAnswer station report ⌝ }
 {
     let kind = report.kind;
-    if kind == 7 {
+    if kind == NORMALISE {
         let busy = station::is_obstructed(station);
         return if busy { NOT_CLEAR } else { DONE };
     }

@@ -3,6 +3,5 @@ pub mod Lengths
 pub mod Placing
 pub mod Spelling
 pub mod Sheets
-pub mod Occupying
 pub mod Counted
 pub mod Counts

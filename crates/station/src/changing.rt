@@ -17,7 +17,8 @@ pub fn track_at(station: Station, number: u8) -> Track
     free_track()
 }
 
-// The station with another track at a number; past the last one, the station as it is.
+// For the crates above alone: it trusts the track that it is handed. The station with it at a number;
+// past the last one, the station as it is.
 pub fn with_track(station: Station, number: u8, track: Track) -> Station
     ensures { λ r. ⌜ r ≡ withTrack station number track ⌝ }
 {
@@ -29,7 +30,8 @@ pub fn with_track(station: Station, number: u8, track: Track) -> Station
     next
 }
 
-// The station with another condition at a head; past the last one, the station as it is.
+// For the crates above alone: it trusts the condition that it is handed. The station with it at a head;
+// past the last one, the station as it is.
 pub fn with_condition(station: Station, head: u8, condition: u16) -> Station
     ensures { λ r. ⌜ r ≡ withCondition station head condition ⌝ }
 {
@@ -41,6 +43,7 @@ pub fn with_condition(station: Station, head: u8, condition: u16) -> Station
     next
 }
 
+// For the crates above alone: it trusts the fault that it is handed.
 pub fn with_fault(station: Station, fault: bool) -> Station
     ensures { λ r. ⌜ r ≡ withFault station fault ⌝ }
 {
@@ -49,6 +52,7 @@ pub fn with_fault(station: Station, fault: bool) -> Station
     next
 }
 
+// For the crates above alone: it trusts the hold that it is handed.
 pub fn with_hold(station: Station, hold: u16) -> Station
     ensures { λ r. ⌜ r ≡ withHold station hold ⌝ }
 {
