@@ -1,6 +1,6 @@
-// Document 01, "Reports": a report of each kind, with its fields as the table of kinds has them. What
-// is handed in is not looked at: whether the station has the track, island or head, and takes the
-// value, the report's answer says.
+// Document 01, "Reports": a report of each kind. What the table of kinds shows as 0, and spare, is 0.
+// What is handed in is not looked at: whether the station has the track, island or head, and takes
+// the value, the report's answer says.
 ghost use mathlib.Core.Path.{_≡_};
 ghost use Rattle.rules.specs.OfEachKind.{clock as OfEachKind·clock, condition as OfEachKind·condition, failed as OfEachKind·failed, freed as OfEachKind·freed, normalised, occupied as OfEachKind·occupied, report as OfEachKind·report, restored as OfEachKind·restored};
 use rules::CLOCK;

@@ -6,7 +6,7 @@ use Rattle.rules.specs.rows.FurtherRows.{furtherRows}
 use Rattle.rules.specs.rows.Row.{firstWrong, named, others}
 
 -- no row has another name than these
-pub no-other : others (46 ∷ 47 ∷ 48 ∷ 49 ∷ 50 ∷ 51 ∷ 52 ∷ 53 ∷ 54 ∷ 55 ∷ 56 ∷ 57 ∷ 58 ∷ 59 ∷ 60 ∷ 61 ∷ 62 ∷ 63 ∷ 64 ∷ []) furtherRows ≡ []
+pub no-other : others (46 ∷ 47 ∷ 48 ∷ 49 ∷ 50 ∷ 51 ∷ 52 ∷ 53 ∷ 54 ∷ 55 ∷ 56 ∷ 57 ∷ 58 ∷ 59 ∷ 60 ∷ 61 ∷ 62 ∷ 63 ∷ 64 ∷ 65 ∷ 66 ∷ 67 ∷ 68 ∷ 69 ∷ []) furtherRows ≡ []
 unfolding computed
 no-other = refl
 
@@ -85,3 +85,23 @@ row-63 = refl
 pub row-64 : firstWrong (named 64 furtherRows) ≡ 0
 unfolding computed
 row-64 = refl
+
+pub row-65 : firstWrong (named 65 furtherRows) ≡ 0
+unfolding computed
+row-65 = refl
+
+pub row-66 : firstWrong (named 66 furtherRows) ≡ 0
+unfolding computed
+row-66 = refl
+
+pub row-67 : firstWrong (named 67 furtherRows) ≡ 0
+unfolding computed
+row-67 = refl
+
+pub row-68 : firstWrong (named 68 furtherRows) ≡ 0
+unfolding computed
+row-68 = refl
+
+pub row-69 : firstWrong (named 69 furtherRows) ≡ 0
+unfolding computed
+row-69 = refl

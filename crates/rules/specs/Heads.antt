@@ -50,7 +50,7 @@ headOutputs outputs condition =
     cond (powerFailed condition || communicationFailed condition || ltb 1 (failedSounders condition)) 0
     (bits (those (λ c. bit outputs (place c) && not (out condition c)) columns))
 
--- The two heads are worked out apart, each from its own condition. A condition needs no normalising. (Of a station refused with 8 the aspect is 5, whose outputs are 0, so the
--- heads show 0.)
+-- The two heads are worked out apart, each from its own condition. A condition needs no normalising. (Of a station refused with 8 the aspect is 5, whose
+-- outputs are 0, so the heads show 0.)
 unfoldable pub headsOf : Station → List ℕ
 headsOf s = map (headOutputs (outputsOf (aspectOf s))) (s .conditions)

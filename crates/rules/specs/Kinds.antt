@@ -15,7 +15,8 @@ kindOf number =
 
 -- ---- what a field holds
 
--- whether it is the number of a track, of an island or of a head, and which numbers are wrong in it whatever the station
+-- whether it is the number of a track, of an island or of a head, and which numbers give 2 in it (a track, an island or a head that there is not gives 3, 4
+-- or 5)
 pub record Field : Type 0 where
   pub isTrack : Bool
   pub isIsland : Bool
@@ -31,22 +32,23 @@ island = record { isTrack = false; isIsland = true; isHead = false; wrong = λ n
 abbrev pub head : Field
 head = record { isTrack = false; isIsland = false; isHead = true; wrong = λ n. false }
 
-abbrev pub number : (ℕ → Bool) → Field
-number wrong = record { isTrack = false; isIsland = false; isHead = false; wrong = wrong }
+-- it names nothing, and these numbers are wrong in it
+abbrev pub refusing : (ℕ → Bool) → Field
+refusing wrong = record { isTrack = false; isIsland = false; isHead = false; wrong = wrong }
 
--- a field shown as 0; ticks, 1 to 65535 (no value is above 65535); a condition, 0 to 1023
-abbrev pub naught : Field
-naught = number (λ n. not (eqb n 0))
+-- a field shown as 0; ticks, 1 to 65535 (a value has 16 bits, so that nothing is tested above); a condition, 0 to 1023
+abbrev pub shownAs0 : Field
+shownAs0 = refusing (λ n. not (eqb n 0))
 
 abbrev pub ticks : Field
-ticks = number (λ n. eqb n 0)
+ticks = refusing (λ n. eqb n 0)
 
 abbrev pub condition : Field
-condition = number (λ n. ltb 1023 n)
+condition = refusing (λ n. ltb 1023 n)
 
 -- nothing is asked of a report of no kind
 abbrev pub unasked : Field
-unasked = number (λ n. false)
+unasked = refusing (λ n. false)
 
 -- ---- the table: meaning, a, b, value
 
@@ -56,11 +58,11 @@ pub record Fields : Type 0 where
   pub value : Field
 
 abbrev pub fields : Kind → Fields
-fields islandOccupied = record { a = track; b = island; value = naught }
-fields islandFree = record { a = track; b = island; value = naught }
-fields clock = record { a = naught; b = naught; value = ticks }
-fields detectorFailed = record { a = track; b = island; value = naught }
-fields detectorRestored = record { a = track; b = island; value = naught }
-fields headCondition = record { a = head; b = naught; value = condition }
-fields normalise = record { a = naught; b = naught; value = naught }
+fields islandOccupied = record { a = track; b = island; value = shownAs0 }
+fields islandFree = record { a = track; b = island; value = shownAs0 }
+fields clock = record { a = shownAs0; b = shownAs0; value = ticks }
+fields detectorFailed = record { a = track; b = island; value = shownAs0 }
+fields detectorRestored = record { a = track; b = island; value = shownAs0 }
+fields headCondition = record { a = head; b = shownAs0; value = condition }
+fields normalise = record { a = shownAs0; b = shownAs0; value = shownAs0 }
 fields noKind = record { a = unasked; b = unasked; value = unasked }

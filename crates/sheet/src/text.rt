@@ -5,7 +5,7 @@ ghost use Prim.Native.Nat.{_+_, _≤_};
 ghost use lib.ListN.{length, take};
 ghost use Rattle.io.specs.Counts.{Counts};
 ghost use Rattle.rules.specs.Printer.{decimal, lengthWritten, lineFeed, written};
-ghost use Rattle.rules.specs.Words.{put as Register·put};
+ghost use Rattle.rules.specs.Words.{put as Words·put};
 
 // Puts a number's decimal digits at the start of text, and answers how many there are.
 pub(crate) fn number_text(number: u64, text: &mut [u8; 20]) -> usize
@@ -20,7 +20,7 @@ pub(crate) fn number_text(number: u64, text: &mut [u8; 20]) -> usize
 fn put(out: &mut [u8], at: usize, text: &[u8]) -> usize
     requires { ⌜ at + length (now text) ≤ length (now out) ⌝ }
     ensures { λ r. ⌜ r ≡ at + length (now (text .entry)) ⌝ }
-    ensures { λ _. ⌜ now (out .exit) ≡ Register·put at (now (text .entry)) (now (out .entry)) ⌝ }
+    ensures { λ _. ⌜ now (out .exit) ≡ Words·put at (now (text .entry)) (now (out .entry)) ⌝ }
 {
     bytes::copy(text, &mut out[at..]);
     at + text.len()

@@ -1,12 +1,14 @@
--- Rows H46 to H64, of our own: each but H64 is here because a wrong rule had passed every row before it. What is due is read off the sentence that stands above each.
+-- Rows H46 to H69, of our own: each but H64 is here because a wrong rule had passed every row before it. What is due is read off the sentence that stands above each.
 use Prim.Native.Nat.{ℕ}
 use mathlib.Core.Bool.{true, false}
 use mathlib.Core.List.{List, [], _∷_, _++_, map}
-use Rattle.rules.specs.Answers.{afterAnswer, answerOf, stationAfter}
+use lib.ListN.{replicate}
+use Rattle.rules.specs.Answers.{afterAnswer, answerOf, stationAfter, taken}
 use Rattle.rules.specs.Aspect.{presenceOf}
 use Rattle.rules.specs.Heads.{headsOf}
+use Rattle.rules.specs.Layout.{entryOf}
 use Rattle.rules.specs.OfEachKind.{clock, condition, failed, freed, normalised, occupied, report, restored}
-use Rattle.rules.specs.Printer.{zonesOf}
+use Rattle.rules.specs.Printer.{fieldsOf, zonesOf}
 use Rattle.rules.specs.Register.{readOf, startAnswer}
 use Rattle.rules.specs.Reports.{withIsland}
 use Rattle.rules.specs.Siting.{advanceSited, warningSited}
@@ -16,8 +18,8 @@ use Rattle.rules.specs.declared.Station.{Station}
 use Rattle.rules.specs.rows.HouseRows.{departing, leaving, shown, trainGone, unheld}
 use Rattle.rules.specs.rows.Machine.{ours}
 use Rattle.rules.specs.rows.Refusals.{answerAfter, chosen, fiveTracks, making, shortT5}
-use Rattle.rules.specs.rows.RegisterRefusals.{other, tooMany}
-use Rattle.rules.specs.rows.RegisterRows.{said, stationTold}
+use Rattle.rules.specs.rows.RegisterRefusals.{all, appendingOf, other, sound, tooMany}
+use Rattle.rules.specs.rows.RegisterRows.{said, stationTold, workedHeader}
 use Rattle.rules.specs.rows.Row.{Row, digits, each, rows, together}
 use Rattle.rules.specs.rows.StationRows.{aspects, fiveIslands, handed, told, toldAfter}
 use Rattle.rules.specs.rows.Table.{c2, c4, c7, c9, outputs, run, seconds, settings}
@@ -52,6 +54,21 @@ n10-1 =
     ∷ (occupied 1 2 ∷ freed 1 1 ∷ occupied 1 3 ∷ freed 1 2 ∷ [])
     ∷ (occupied 1 4 ∷ freed 1 3 ∷ [])
     ∷ []
+
+-- a register: a normalise, and reports refused by 1 to 5
+abbrev pub refusedToFive : List ℕ
+refusedToFive =
+    workedHeader
+    ++ (7 ∷ 0 ∷ 0 ∷ 0 ∷ 0 ∷ 0 ∷ 0 ∷ 0 ∷ [])
+    ++ (8 ∷ 0 ∷ 0 ∷ 0 ∷ 0 ∷ 0 ∷ 1 ∷ 0 ∷ [])
+    ++ (3 ∷ 0 ∷ 0 ∷ 0 ∷ 0 ∷ 0 ∷ 2 ∷ 0 ∷ [])
+    ++ (1 ∷ 2 ∷ 0 ∷ 0 ∷ 0 ∷ 0 ∷ 3 ∷ 0 ∷ [])
+    ++ (1 ∷ 0 ∷ 5 ∷ 0 ∷ 0 ∷ 0 ∷ 4 ∷ 0 ∷ [])
+    ++ (6 ∷ 2 ∷ 0 ∷ 0 ∷ 8 ∷ 0 ∷ 5 ∷ 0 ∷ [])
+
+-- fourteen reports of no kind to a fresh station, and one whose answer is wrong
+abbrev pub wrongFifteenth : List ℕ
+wrongFifteenth = workedHeader ++ together (replicate 14 (8 ∷ 0 ∷ 0 ∷ 0 ∷ 0 ∷ 0 ∷ 1 ∷ 5 ∷ [])) ++ (8 ∷ 0 ∷ 0 ∷ 0 ∷ 0 ∷ 0 ∷ 2 ∷ 5 ∷ [])
 
 abbrev pub furtherRows : List Row
 furtherRows =
@@ -96,7 +113,7 @@ furtherRows =
     ++ each 53 0 (answerOf failedUnlatched (restored 0 4) ∷ [])
     -- H54: a clock of a thousand ticks; and after an answer of 0 a report of no kind does nothing
     ++ rows 54 (toldAfter 4 (occupied 0 4 ∷ clock 1000 ∷ [])) (1 ∷ 0 ∷ 0 ∷ 1000 ∷ [])
-    ++ rows 54 (stationTold (afterAnswer (c9 ours) (report 8 0 0 0 0) 0)) (stationTold (c9 ours))
+    ++ rows 54 (together (map (λ kind. stationTold (afterAnswer (c9 ours) (report kind 0 0 0 0) 0)) (0 ∷ 8 ∷ []))) (stationTold (c9 ours) ++ stationTold (c9 ours))
     -- H55: a normalise is refused with 7, and by no other number, whichever island is occupied or failed, the first of the first track too, leaving or not;
     ++ each 55 7 (map (λ l. answerAfter l normalised) (map (λ k. occupied 0 k ∷ []) fiveIslands ++ map (λ k. failed 0 k ∷ []) fiveIslands ++ (departing 0 ∷ leaving 0 ∷ [])))
     -- clock and head reports are taken whatever is occupied or failed
@@ -123,3 +140,15 @@ furtherRows =
     (1 ∷ 0 ∷ 0 ∷ 0 ∷ 0 ∷ 0 ∷ 0 ∷ 0 ∷ 1 ∷ 0 ∷ 0 ∷ 0 ∷ [])
     -- H64: N10.1 keeps R+ after train 1 has gone to the siding, though its own note says the board is off. The note decides: 72 in its sixth event, not 152
     ++ rows 64 (outputsAfter (c2 ours) n10-1) (1 ∷ 34 ∷ 152 ∷ 152 ∷ 152 ∷ 72 ∷ 1 ∷ 1 ∷ [])
+    -- H65: 9: wrong mark: each of its letters, one less and one more
+    ++ each 65 9 (together (map all (other 0 (66 ∷ []) ∷ other 0 (68 ∷ []) ∷ other 1 (68 ∷ []) ∷ other 1 (70 ∷ []) ∷ other 2 (64 ∷ []) ∷ other 2 (66 ∷ []) ∷ [])))
+    -- H66: 8: in appending, header settings not the station's: each of the six, the header's one less
+    ++ each 66 8 (map (appendingOf sound) (chosen 3 300 300 300 0 600 ∷ chosen 2 301 300 300 0 600 ∷ chosen 2 300 301 300 0 600 ∷ chosen 2 300 300 301 0 600 ∷ chosen 2 300 300 300 1 600 ∷ chosen 2 300 300 300 0 601 ∷ []))
+    -- H67: 16 bits, low byte first: 255 and 65535
+    ++ rows 67 (entryOf (clock 255) 0 0 ++ entryOf (clock 65535) 0 0) (3 ∷ 0 ∷ 0 ∷ 0 ∷ 255 ∷ 0 ∷ 0 ∷ 0 ∷ 3 ∷ 0 ∷ 0 ∷ 0 ∷ 255 ∷ 255 ∷ 0 ∷ 0 ∷ [])
+    -- H68: a report refused by 1 to 5 has its number where it is taken, in its entry, and on its row of the sheet
+    ++ rows 68 (map (λ r. taken (c2 ours) r .answer) (report 8 0 0 0 0 ∷ clock 0 ∷ occupied 2 0 ∷ occupied 0 5 ∷ condition 2 8 ∷ [])) (1 ∷ 2 ∷ 3 ∷ 4 ∷ 5 ∷ [])
+    ++ rows 68 (said (readOf refusedToFive)) (0 ∷ 0 ∷ 6 ∷ [])
+    ++ rows 68 (map (λ n. fieldsOf refusedToFive n .answer) (1 ∷ 2 ∷ 3 ∷ 4 ∷ 5 ∷ [])) (1 ∷ 2 ∷ 3 ∷ 4 ∷ 5 ∷ [])
+    -- H69: the first entry that is wrong is named, the fifteenth too
+    ++ rows 69 (said (readOf wrongFifteenth)) (13 ∷ 15 ∷ 0 ∷ [])
