@@ -1,7 +1,7 @@
 -- Document 01, "The register": "The bench's browser is a reader that holds the lent register and a place in it. It starts at row 0; a move answers as
 -- stepping does, and a refused one keeps its place." On any bytes: a refused move changes nothing, one that is done stands on its row, no move changes
--- the register held, and there is no row before the first or after the last. And demand 2, through the browser: whatever moves came before, a row moved
--- to is the station as it was after that row.
+-- the register held, and there is no row before the first or after the last. And demand 2's "stepping back to any row gives the station as it was after
+-- that row", through the browser: whatever moves came before, a move to a row does so.
 -- Assumes nothing.
 use Prim.Native.Nat.{ℕ, suc, _≤_, _<_}
 use native.Mathlib.Omega.{arith}

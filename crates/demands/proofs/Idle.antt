@@ -1,7 +1,7 @@
 -- Document 01, "How firm each statement is": "Five idle versions have to be shut out. One that refuses everything, and one that always shows aspect 5,
 -- break demand 2 at C2. One that keeps the station unchanged breaks it at C2. One that follows the first report and then coasts breaks it at C3. A
 -- made-up number of entries read breaks demand 2's reading back." Here are the five: four each at the row where it falls, and the made-up number at two
--- registers, of no entry and of one. Then demand 1's "each number is given in its stated case only": no answers to reports but ours are given so.
+-- registers, of no entry and of one. Then demand 1's "Each number is given in its stated case only": no answers to reports but ours are given so.
 use Prim.Native.Nat.{ℕ, _≤_}
 use native.Mathlib.Omega.{arith}
 use mathlib.Core.Path.{_≡_, refl, ap}
@@ -67,7 +67,7 @@ answers-done table =
     let one : _≡_ {A = ℕ} 0 1 = only-ours answersDone table (made leastSettings .station) (record { kind = 0; a = 0; b = 0; spare = 0; value = 0 }) in
     omega arith
 
--- Nor does one that tests the island before the track: of the one track, track 1 and its island 5 get 3.
+-- Nor does one that tests the island before the track. A station of one track has no track 1: with island 5 the answer is 3, not 4.
 pub island-first : AsTheTable islandFirst → ⊥
 unfolding computed
 island-first table =

@@ -1,5 +1,6 @@
 -- Document 01, "The register": "Reading .. gives the rows back when they were appended at 0, 1, 2 and on, from a fresh station, each with the station the
--- last one returned, and exactly the filled bytes are read." And demand 2: stepping back to any row gives the station as it was after that row.
+-- last one returned, and exactly the filled bytes are read." And demand 2: "A register that we start and fill reads back to the same rows, and stepping
+-- back to any row gives the station as it was after that row."
 -- Assumes nothing.
 use Prim.Native.Nat.{ℕ, zero, suc, _+_, _-_, _≤_, _<_}
 use native.Mathlib.Omega.{arith}

@@ -4,9 +4,13 @@ use Prim.Native.Nat.{ℕ, _≤_}
 use native.Mathlib.Decide.{ℕ-discrete}
 use native.Mathlib.Omega.{arith}
 use mathlib.Core.Path.{_≡_, refl, sym, ap, _∙_}
-use mathlib.Core.Bool.{true≢false}
-use mathlib.Core.List.{List}
+use mathlib.Core.Bool.{Bool, true, false, true≢false, cond}
+use mathlib.Core.List.{List, [], _∷_, _++_}
+use lib.ListN.{drop, length}
+use Rattle.browser.specs.Browsing.{bytesOf, movedTo}
+use Rattle.browser.specs.declared.Browser.{Browser}
 use Rattle.chains.proofs.Chains.{group-so, test-so}
+use Rattle.demands.proofs.BrowseBack.{refused-stays}
 use Rattle.demands.proofs.Exactly.{in-its-case}
 use Rattle.demands.proofs.RegisterLaws.{append-applies, append-elsewhere, append-enters-refused, append-refused, start-refused}
 use Rattle.demands.proofs.Stated.{append-within, stated-report}
@@ -16,7 +20,8 @@ use Rattle.reports.proofs.Taking.{after-refused, answer-below}
 use Rattle.rules.specs.Answers.{answerOf, taken}
 use Rattle.rules.specs.Aspect.{aspectOf}
 use Rattle.rules.specs.Layout.{entryOf}
-use Rattle.rules.specs.Register.{appendAnswer, appended, appendedBytes, headAnswer}
+use Rattle.rules.specs.Printer.{fits, lengthWritten, written}
+use Rattle.rules.specs.Register.{appendAnswer, appended, appendedBytes, headAnswer, readingOf, stepOf}
 use Rattle.rules.specs.declared.Report.{Report}
 use Rattle.rules.specs.declared.Settings.{Settings}
 use Rattle.rules.specs.declared.Station.{Station}
@@ -68,6 +73,17 @@ module _ (b : List ℕ) (k : ℕ) (s : Station) (r : Report) where
             row = λ h l. let none : ⊥ = omega arith in absurd none;
           }
 
+-- nothing is written of a text that does not fit, nor of an empty one
+not-written : (text b : List ℕ) → lengthWritten text b ≡ 0 → written text b ≡ b
+unfolding lengthWritten written
+not-written text b = go (fits text b) text
+  where
+    go : (t : Bool) (l : List ℕ) → cond t (length l) 0 ≡ 0 → cond t (l ++ drop (length l) b) b ≡ b
+    go false l e = refl
+    go true [] e = refl
+    go true (x ∷ l) e = let none : ⊥ = omega arith in absurd none
+
 pub refusal-leaves : RefusalLeaves
-unfolding taken
-refusal-leaves = record { report = after-refused; starting = start-refused; appending = append-leaves }
+unfolding taken stepOf readingOf
+refusal-leaves =
+    record { report = after-refused; starting = start-refused; appending = append-leaves; printing = not-written; moving = refused-stays }

@@ -1,6 +1,6 @@
 -- Document 01, "The numbers it answers": reading, stepping and handing back are tested for 9, 10, 11, 12 and 8 alike; 13 names the first entry whose
--- answer or aspect is not what the replay gives; stepping reads the first k entries only. "Easy to get wrong": keeping rows that follow the live
--- station; a row stepped back to does not follow what came later, and is what was read when it was the last.
+-- answer or aspect is not what the replay gives; stepping looks for it among the first k entries only. "Easy to get wrong": keeping rows that follow the
+-- live station; a row stepped back to does not follow what came later, and is what was read when it was the last.
 -- Assumes nothing.
 use Prim.Native.Nat.{ℕ, zero, suc, _-_, _/_, _%_, _≤_}
 use native.Mathlib.Omega.{arith}
@@ -61,7 +61,7 @@ module _ (b : List ℕ) where
   step-names-one k e q =
       wrong-named b k (in-its-case (ofStepping b k) _ 13 (stated-stepping b k) e) (sym (named k (stepAnswer b k) e) ∙ q)
 
--- ---- stepping, from the first k entries alone
+-- ---- stepping to row k, from the header and the first k entries, and of the rest only its length
 
 module _ (b b′ : List ℕ) where
   after-apart : (k : ℕ) → take (entryStart k) b ≡ take (entryStart k) b′ → after b k ≡ after b′ k
@@ -106,7 +106,7 @@ module _ (b b′ : List ℕ) where
     pub step-apart : length b ≡ length b′ → stepOf b k ≡ stepOf b′ k
     step-apart l = step-from (register-apart l) (λ i. ltb ((l i - 16) / 8) k)
 
-    -- and registers of any length that have the row, as one that has grown since.
+    -- and registers of any length that pass their tests and have the row, as one that has grown since.
     pub step-grown : registerAnswer b ≡ 0 → registerAnswer b′ ≡ 0 → k ≤ entries b → k ≤ entries b′ → stepOf b k ≡ stepOf b′ k
     step-grown z z′ h h′ = step-from (z ∙ sym z′) (le-ltb (entries b) k h ∙ sym (le-ltb (entries b′) k h′))
 

@@ -1,5 +1,5 @@
--- Document 01, "The numbers it answers", and demand 1: any report, setting or register is taken or refused by a number, and each number is given in its
--- stated case only. The tests stand here as in the definitions, each with the words of the table.
+-- Document 01, "The numbers it answers", and demand 1: "Any report, setting or register is taken or refused by a number, .. Each number is given in its
+-- stated case only." The tests stand here as in the definitions, each with the words of the table.
 -- Assumes nothing.
 use Prim.Native.Nat.{ℕ, zero, suc, _+_, _*_, _-_, _%_}
 use native.Mathlib.Decide.{ℕ-discrete}
@@ -11,10 +11,10 @@ use lib.ListN.{length}
 use Rattle.chains.proofs.Chains.{both-done, neither, passed, same-order}
 use Rattle.demands.proofs.Exactly.{Row, Tests, at-most, below, equal, exactly, group, in-words, is, isnt, unequal, _and_, _before_, _on_, _or_}
 use Rattle.demands.specs.Exactly.{GivenExactly}
-use Rattle.demands.specs.Stated.{SomeWrong, ofAppending, ofHandingBack, ofLimits, ofReading, ofStarting, ofStepping, ofTaking}
+use Rattle.demands.specs.Stated.{AsStated, SomeWrong, ofAppending, ofHandingBack, ofLimits, ofReading, ofStarting, ofStepping, ofTaking}
 use Rattle.register.proofs.FirstWrong.{names-first, none-wrong}
 use Rattle.reports.proofs.ByNumber.{not-blocked}
-use Rattle.rules.specs.Answers.{already, answerOf, blocked, formAnswer, namesHead, namesIsland, placeAnswer, stateAnswer, wrongFields}
+use Rattle.rules.specs.Answers.{already, answerOf, blocked, formAnswer, namesHead, namesIsland, placeAnswer, stateAnswer, taken, wrongFields}
 use Rattle.rules.specs.Kinds.{kindOf}
 use Rattle.rules.specs.Layout.{entries, hasMark, settingsIn, versionIn}
 use Rattle.rules.specs.Register.{appendAnswer, appended, entryAnswer, firstWrong, headAnswer, lengthAnswer, readAnswer, readOf, readingOf, registerAnswer, sameSettings, startAnswer, stepAnswer, stepOf}
@@ -157,3 +157,22 @@ module _ (b : List ℕ) where
   pub stated-handing-back : (k : ℕ) → GivenExactly (ofHandingBack b k) (entryAnswer b k)
   unfolding entryAnswer registerAnswer headAnswer lengthAnswer settingsAnswer
   stated-handing-back k = exactly (register before group (14 on equal k 0 or below (entries b) k ∷ [])) refl
+
+-- ---- all of them
+
+pub as-stated : AsStated
+unfolding taken made
+as-stated =
+    record {
+      report = stated-report;
+      reportAsked = stated-report;
+      settings = stated-settings;
+      settingsAsked = stated-settings;
+      advance = stated-advance;
+      warning = stated-warning;
+      starting = stated-starting;
+      appending = stated-appending;
+      reading = stated-reading;
+      handingBack = stated-handing-back;
+      stepping = stated-stepping;
+    }

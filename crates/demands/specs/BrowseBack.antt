@@ -1,6 +1,6 @@
 -- Document 01, "The register": "The bench's browser is a reader that holds the lent register and a place in it. It starts at row 0; a move answers as
--- stepping does, and a refused one keeps its place." And demand 2, through the browser: whatever moves came before, a row moved to is the station as it
--- was after that row.
+-- stepping does, and a refused one keeps its place." And demand 2's "stepping back to any row gives the station as it was after that row", through the
+-- browser: whatever moves came before, a move to a row does so.
 use Prim.Native.Nat.{ℕ, _≤_, _<_}
 use mathlib.Core.Path.{_≡_}
 use mathlib.Core.List.{List, [], _∷_}

@@ -8,7 +8,7 @@ use lib.Dec.{eqb}
 use Rattle.rules.specs.Words.{any}
 
 infixr 20 _when_then_
--- A number with its case, before others; and the number for where no case holds.
+-- A number with its case, before others; and the number for where no case holds. No number stands twice in a list.
 pub data Cases : Type 1 where
   _when_then_ : ℕ → Type 0 → Cases → Cases
   otherwise : ℕ → Cases
@@ -31,7 +31,7 @@ numbersOf (otherwise n) = n ∷ []
 abbrev pub oneOf : List ℕ → ℕ → Bool
 oneOf numbers n = any (eqb n) numbers
 
--- the case of a number
+-- the case of a number (of the last number, and of one that is not there, nothing is said)
 abbrev pub CaseOf : ℕ → Cases → Type 0
 CaseOf k (n when case then rest) = cond (eqb n k) case (CaseOf k rest)
 CaseOf k (otherwise n) = Unit

@@ -1,5 +1,6 @@
--- Demand 3: "No lamp is stuck: once the clock has gone the longer of T5, or T4 plus the greatest of T1, T2, T3, with only clock, head and refused reports,
--- the aspect is settled: out of service if a fault was latched at the start or a warning island is occupied, else orange if any island is, else green."
+-- Demand 3: "No lamp is stuck. Take any station reached by any reports. Let only clock reports, head reports and refused ones follow. Once the clock has
+-- gone the longer of two times, T5 alone or T4 plus the greatest of T1, T2 and T3, the aspect is settled and stays so: out of service if a fault was
+-- latched when the quiet began or a warning island is occupied; otherwise orange if any island is occupied; otherwise green."
 use Prim.Native.Nat.{ℕ, _+_, max, _≤_}
 use mathlib.Core.Path.{_≡_}
 use mathlib.Core.Bool.{Bool, true, cond, not, _&&_, _||_}
@@ -20,14 +21,14 @@ unfoldable pub afterAll : Station → List Report → Station
 afterAll s [] = s
 afterAll s (r ∷ rs) = afterAll (stationAfter s r) rs
 
--- A station reached from a fresh one, of any settings within their limits, by any reports.
+-- "any station reached by any reports": from a fresh one, of any settings within their limits.
 pub record Reached (s : Station) : Type 0 where
   pub settings : Settings
   pub reports : List Report
   pub within : withinLimits settings ≡ true
   pub reached : afterAll (freshStation settings) reports ≡ s
 
--- ---- with only clock, head and refused reports
+-- ---- "Let only clock reports, head reports and refused ones follow."
 
 abbrev pub accepted : Station → Report → Bool
 accepted s r = eqb (answerOf s r) done
@@ -49,9 +50,9 @@ unfoldable pub clockGone : Station → List Report → ℕ
 clockGone s [] = 0
 clockGone s (r ∷ rs) = cond (accepted s r && isClock r) (r .value) 0 + clockGone (stationAfter s r) rs
 
--- ---- the aspect is settled
+-- ---- "the aspect is settled and stays so"
 
--- the longer of T5, or T4 plus the greatest of T1, T2, T3
+-- the longer of two times, T5 alone or T4 plus the greatest of T1, T2 and T3
 abbrev pub greatest : Settings → ℕ
 greatest c = max (c .t1) (max (c .t2) (c .t3))
 
@@ -62,14 +63,15 @@ longEnough c = max (c .t5) (c .t4 + greatest c)
 abbrev pub warningOccupied : Track → Bool
 warningOccupied t = anyIsland (λ z i. isWarning z && i .occupied) t
 
--- Out of service if a fault was latched at the start or a warning island is occupied, else orange if any island is, else green: aspects 5, 4 and 0.
+-- Out of service if a fault was latched when the quiet began or a warning island is occupied; otherwise orange if any island is occupied; otherwise green:
+-- aspects 5, 4 and 0.
 abbrev pub settled : Bool → Station → ℕ
 settled latched s =
     5 if latched || any warningOccupied (live s) then
     4 if any someOccupied (live s) then
     0
 
--- From a station on, with only such reports: once the clock has gone long enough the aspect is settled, and it is the same after every longer
+-- From a station on, where only such reports follow: once the clock has gone long enough the aspect is settled and stays so, the same after every longer
 -- continuation.
 pub record NotStuck (s : Station) : Type 0 where
   pub settles : (rs : List Report) → Quiet s rs ≡ true → longEnough (s .settings) ≤ clockGone s rs

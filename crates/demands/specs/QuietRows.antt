@@ -1,6 +1,7 @@
--- Rows Q1 to Q19, for the words of demand 3 in specs/Quiet: what is due is worked out by hand from the sentence and from document 01. The sentence: "No lamp
--- is stuck: once the clock has gone the longer of T5, or T4 plus the greatest of T1, T2, T3, with only clock, head and refused reports, the aspect is
--- settled: out of service if a fault was latched at the start or a warning island is occupied, else orange if any island is, else green."
+-- Rows Q1 to Q19, for the words of demand 3 in specs/Quiet: what is due is worked out by hand from these words and from document 01. "No lamp is stuck. Take
+-- any station reached by any reports. Let only clock reports, head reports and refused ones follow. Once the clock has gone the longer of two times, T5
+-- alone or T4 plus the greatest of T1, T2 and T3, the aspect is settled and stays so: out of service if a fault was latched when the quiet began or a
+-- warning island is occupied; otherwise orange if any island is occupied; otherwise green."
 use Prim.Native.Nat.{ℕ, _-_}
 use mathlib.Core.Bool.{true, false}
 use mathlib.Core.List.{List, [], _∷_, _++_, map}
@@ -86,7 +87,7 @@ quietLists s lists = digits (map (Quiet s) lists)
 abbrev pub aspectAfter : List Report → ℕ
 aspectAfter reports = aspectOf (afterAll idle reports)
 
--- the settled aspect where no fault was latched at the start, and where one was
+-- the settled aspect where no fault was latched when the quiet began, and where one was
 abbrev pub unlatched : List Report → ℕ
 unlatched reports = settled false (from byT5 reports)
 
@@ -116,7 +117,7 @@ mixed =
 
 abbrev pub quietRows : List Row
 quietRows =
-    -- Q1: the longer of T5, or T4 plus the greatest of T1, T2, T3: 9 against 2 + 5; 4 + 7, 6 + 7 and 4 + 8 against 9;
+    -- Q1: the longer of two times, T5 alone or T4 plus the greatest of T1, T2 and T3: 9 against 2 + 5; 4 + 7, 6 + 7 and 4 + 8 against 9;
     rows 1 (map longEnough (byT5 ∷ byT1 ∷ byT2 ∷ byT3 ∷ [])) (9 ∷ 11 ∷ 13 ∷ 12 ∷ [])
     -- with T4 = 0: 9 against 5; T1 = 12 and T3 = 11 against 9; 4 + 5 is 9; and 65535 + 65535 is not cut off
     ++ rows 1 (map longEnough (chosen 2 3 5 4 0 9 ∷ chosen 2 12 5 4 0 9 ∷ chosen 2 4 5 11 0 9 ∷ [])) (9 ∷ 12 ∷ 11 ∷ [])
@@ -138,13 +139,13 @@ quietRows =
     -- Q6: T4 = 0, one island: an advance island is fresh at tick 11 of T1 = 12: 1; the crossing at tick 10 of T3 = 11: 2; held one tick later
     ++ rows 6 (around (from (chosen 2 12 5 4 0 9) (occupied 1 4 ∷ []))) (12 ∷ 1 ∷ 4 ∷ 4 ∷ [])
     ++ rows 6 (around (from (chosen 2 4 5 11 0 9) (occupied 0 2 ∷ []))) (11 ∷ 2 ∷ 4 ∷ 4 ∷ [])
-    -- Q7: else green. Nothing occupied, what is left of the hold is gone after T4 ticks, sooner than asked: 3 at tick 3, 0 at tick 4 and after.
+    -- Q7: otherwise green. Nothing occupied, what is left of the hold is gone after T4 ticks, sooner than asked: 3 at tick 3, 0 at tick 4 and after.
     ++ rows 7 (around idle) (9 ∷ 0 ∷ 0 ∷ 0 ∷ [])
     ++ rows 7 (judged holdLeft (clock 3 ∷ [])) (1 ∷ 3 ∷ 3 ∷ 0 ∷ [])
     ++ rows 7 (judged holdLeft (clock 4 ∷ [])) (1 ∷ 4 ∷ 0 ∷ 0 ∷ [])
     ++ rows 7 (around holdLeft) (11 ∷ 0 ∷ 0 ∷ 0 ∷ [])
-    -- Q8: out of service if a fault was latched at the start: on a fresh station; by a failed detector, an advance island occupied; by a warning island that
-    -- is free again
+    -- Q8: out of service if a fault was latched when the quiet began: on a fresh station; by a failed detector, an advance island occupied; by a warning
+    -- island that is free again
     ++ rows 8 (around (ours .make byT5)) (9 ∷ 5 ∷ 5 ∷ 5 ∷ [])
     ++ rows 8 (around busy) (9 ∷ 5 ∷ 5 ∷ 5 ∷ [])
     ++ rows 8 (around (from byT5 (occupied 0 3 ∷ clock 9 ∷ freed 0 3 ∷ []))) (9 ∷ 5 ∷ 5 ∷ 5 ∷ [])
@@ -180,21 +181,21 @@ quietRows =
     -- of the station that those before it leave: of two alike the second is refused, the first was taken; or the second is taken, refused at the start
     ++ rows 14 (quietLists idle ((occupied 0 4 ∷ occupied 0 4 ∷ []) ∷ (normalised ∷ normalised ∷ []) ∷ (occupied 0 4 ∷ freed 0 4 ∷ []) ∷ [])) (0 ∷ 0 ∷ 0 ∷ [])
     ++ rows 14 (quietLists idle ((freed 0 4 ∷ occupied 0 4 ∷ freed 0 4 ∷ []) ∷ (freed 0 4 ∷ restored 0 4 ∷ freed 0 4 ∷ []) ∷ [])) (0 ∷ 1 ∷ [])
-    -- Q15: and the words "with only" are needed. Occupied after 11 ticks: a fresh crossing, two tracks: 3. Freed after the fault: 5. Failed: 5. Normalised: 0.
+    -- Q15: and the word "only" is needed. Occupied after 11 ticks: a fresh crossing, two tracks: 3. Freed after the fault: 5. Failed: 5. Normalised: 0.
     -- (Restored leaves the aspect as it is, but the words do not name it: Q13.)
     ++ rows 15 (judged twoAdvance (clock 11 ∷ occupied 0 2 ∷ [])) (0 ∷ 11 ∷ 3 ∷ 4 ∷ [])
     ++ rows 15 (judged (from byT5 (occupied 0 3 ∷ [])) (clock 9 ∷ freed 0 3 ∷ [])) (0 ∷ 9 ∷ 5 ∷ 0 ∷ [])
     ++ rows 15 (judged idle (clock 9 ∷ failed 0 0 ∷ [])) (0 ∷ 9 ∷ 5 ∷ 0 ∷ [])
     ++ rows 15 (judged (ours .make byT5) (clock 9 ∷ normalised ∷ [])) (0 ∷ 9 ∷ 0 ∷ 5 ∷ [])
-    -- Q16: settled, no fault latched at the start: 5 by a warning island of either side, either mark, either track, whatever else is occupied;
+    -- Q16: settled, no fault latched when the quiet began: 5 by a warning island of either side, either mark, either track, whatever else is occupied;
     ++ rows 16 (map unlatched ((occupied 0 1 ∷ []) ∷ (occupied 0 3 ∷ []) ∷ (occupied 1 1 ∷ []) ∷ (occupied 1 3 ∷ []) ∷ [])) (5 ∷ 5 ∷ 5 ∷ 5 ∷ [])
     ++ rows 16 (map unlatched (leaving 0 ∷ leavingSide2 0 ∷ leaving 1 ∷ leavingSide2 1 ∷ [])) (5 ∷ 5 ∷ 5 ∷ 5 ∷ [])
     ++ rows 16 (map unlatched ((occupied 0 4 ∷ occupied 1 3 ∷ []) ∷ (occupied 0 1 ∷ occupied 0 2 ∷ []) ∷ [])) (5 ∷ 5 ∷ [])
-    -- Q17: else 4 by an advance island or the crossing, of any age and mark; else 0, a failed detector too
+    -- Q17: otherwise 4 by an advance island or the crossing, of any age and mark; otherwise 0, a failed detector too
     ++ rows 17 (map unlatched ((occupied 0 0 ∷ []) ∷ (occupied 0 2 ∷ []) ∷ (occupied 0 4 ∷ []) ∷ [])) (4 ∷ 4 ∷ 4 ∷ [])
     ++ rows 17 (map unlatched ((occupied 1 0 ∷ []) ∷ (occupied 1 2 ∷ clock 4 ∷ []) ∷ (occupied 1 4 ∷ []) ∷ departing 1 ∷ [])) (4 ∷ 4 ∷ 4 ∷ 4 ∷ [])
     ++ rows 17 (map unlatched ([] ∷ (failed 0 3 ∷ []) ∷ (occupied 0 3 ∷ freed 0 3 ∷ []) ∷ [])) (0 ∷ 0 ∷ 0 ∷ [])
-    -- a fault latched at the start: 5 before all
+    -- a fault latched when the quiet began: 5 before all
     ++ rows 17 (map latched ([] ∷ (occupied 0 4 ∷ []) ∷ (occupied 0 3 ∷ []) ∷ [])) (5 ∷ 5 ∷ 5 ∷ [])
     -- Q18: every track of the station is read, here the fourth of four; a track beyond its number is not, here the second of one
     ++ rows 18 (map (λ l. settled false (from (chosen 4 3 5 4 2 9) l)) ((occupied 3 4 ∷ []) ∷ (occupied 3 1 ∷ []) ∷ [])) (4 ∷ 5 ∷ [])

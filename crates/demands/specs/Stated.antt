@@ -1,20 +1,23 @@
--- Document 01, "The numbers it answers", and demand 1: any report, setting or register is taken or refused by a number, and each number is given in its
--- stated case only. For each thing that is answered: the rows of the table that it can be answered, in their words, and in the order of "Order".
+-- Document 01, "The numbers it answers", and demand 1: "Any report, setting or register is taken or refused by a number, .. Each number is given in its
+-- stated case only." For each thing that is answered: the numbers that it can be answered with, each with its case in the table's words, in the order
+-- of "Order". At the end, that each answer is given so.
 use Prim.Native.Nat.{ℕ, _+_, _*_, _-_, _%_, _≤_, _<_}
 use mathlib.Core.Logic.{_⊎_}
 use mathlib.Core.Path.{_≡_}
-use mathlib.Core.Bool.{Bool, true, false}
+use mathlib.Core.Bool.{Bool, true, false, _&&_}
 use mathlib.Core.List.{List}
 use lib.ListN.{length}
-use Rattle.demands.specs.Exactly.{Cases, otherwise, _when_then_}
-use Rattle.rules.specs.Answers.{already, namesHead, namesIsland, wrongFields}
+use Rattle.demands.specs.Exactly.{Cases, GivenExactly, otherwise, _when_then_}
+use Rattle.rules.specs.Answers.{already, answerOf, namesHead, namesIsland, taken, wrongFields}
 use Rattle.rules.specs.Kinds.{kindOf}
 use Rattle.rules.specs.Layout.{entries, entryAt, hasMark, settingsIn, versionIn}
-use Rattle.rules.specs.Register.{after, asReplayed, sameSettings}
+use Rattle.rules.specs.Register.{after, appended, asReplayed, entryAnswer, readOf, sameSettings, startAnswer, stepOf}
 use Rattle.rules.specs.Reports.{namedIsland}
-use Rattle.rules.specs.Station.{obstructed, withinLimits}
+use Rattle.rules.specs.Siting.{advanceSited, messageGood, speedGood, tracksGood, warningSited}
+use Rattle.rules.specs.Station.{made, obstructed, settingsAnswer, withinLimits}
 use Rattle.rules.specs.Words.{within}
 use Rattle.rules.specs.declared.Report.{Report}
+use Rattle.rules.specs.declared.Seconds.{Seconds}
 use Rattle.rules.specs.declared.Settings.{Settings}
 use Rattle.rules.specs.declared.Station.{Station}
 
@@ -66,7 +69,7 @@ ofStarting c b =
     12 when length b < 16 then
     otherwise 0
 
--- 9, 10 come first wherever there is a register
+-- 9, 10 come first wherever a register is read or appended to
 abbrev pub ofHeader : List ℕ → Cases → Cases
 ofHeader b rest =
     -- register shorter than 16 bytes or wrong mark
@@ -124,3 +127,27 @@ ofStepping b k =
     14 when entries b < k then
     13 when SomeWrong b k then
     otherwise 0)
+
+-- ---- "The numbers it answers": each is "given exactly when" its case holds, and none that "Order" tests before it
+
+pub record AsStated : Type 0 where
+  -- A report that is taken, and one of which the answer alone is asked.
+  pub report : (s : Station) (r : Report) → GivenExactly (ofTaking s r) (taken s r .answer)
+  pub reportAsked : (s : Station) (r : Report) → GivenExactly (ofTaking s r) (answerOf s r)
+  -- Settings that a station is made of, and such of which the answer alone is asked.
+  pub settings : (c : Settings) → GivenExactly (ofLimits (withinLimits c)) (made c .answer)
+  pub settingsAsked : (c : Settings) → GivenExactly (ofLimits (withinLimits c)) (settingsAnswer c)
+  -- The advance distance, of a speed and the seconds of the message.
+  pub advance : (v : ℕ) (m : Seconds) → GivenExactly (ofLimits (speedGood v && messageGood (m .0))) (advanceSited v m .answer)
+  -- The warning distance, of a speed and a number of tracks.
+  pub warning : (v n : ℕ) → GivenExactly (ofLimits (speedGood v && tracksGood n)) (warningSited v n .answer)
+  -- A register that is started in the bytes lent.
+  pub starting : (c : Settings) (b : List ℕ) → GivenExactly (ofStarting c b) (startAnswer c b)
+  -- A report that is appended as entry k.
+  pub appending : (b : List ℕ) (k : ℕ) (s : Station) (r : Report) → GivenExactly (ofAppending b k s r) (appended b k s r .answer)
+  -- A register that is read.
+  pub reading : (b : List ℕ) → GivenExactly (ofReading b) (readOf b .answer)
+  -- Row k of a register, handed back.
+  pub handingBack : (b : List ℕ) (k : ℕ) → GivenExactly (ofHandingBack b k) (entryAnswer b k)
+  -- Row k of a register, stepped to; a move of the browser answers as stepping does.
+  pub stepping : (b : List ℕ) (k : ℕ) → GivenExactly (ofStepping b k) (stepOf b k .answer)
