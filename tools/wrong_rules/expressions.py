@@ -144,10 +144,10 @@ class Expressions:
                 test = self.whole()
                 self.take("then")
                 rest = self.expression(binding)
-                left = Node("test", left.start, rest.end, parts=[left, test, rest])
+                left = Node("test", left.outer_start, rest.outer_end, parts=[left, test, rest])
             else:
                 right = self.expression(binding if to_right else binding + 1)
-                left = Node("op", left.start, right.end, mark.text, [left, right], mark=mark)
+                left = Node("op", left.outer_start, right.outer_end, mark.text, [left, right], mark=mark)
         return left
 
     def application(self):
