@@ -17,6 +17,7 @@ class Prover:
 
     def __init__(self, with_rows):
         self.root = tempfile.mkdtemp(prefix="wrong-rules-")
+        atexit.register(shutil.rmtree, self.root, ignore_errors=True)
         self.crate = os.path.join(self.root, "crates", "rules")
         for part in ["src", "specs", "proofs"] if with_rows else ["src", "specs"]:
             shutil.copytree(os.path.join(CRATE, part), os.path.join(self.crate, part))
@@ -26,7 +27,6 @@ class Prover:
         if status != 0:
             sys.exit("the crate rules is not proved as it stands:\n" + said)
         shutil.copytree(os.path.join(self.root, "target"), os.path.join(self.root, "warm"))
-        atexit.register(shutil.rmtree, self.root, ignore_errors=True)
 
     def check(self):
         """The prover's status, and what it says."""
