@@ -1,0 +1,1 @@
+// no functions: that the reader takes exactly the texts of the rules
