@@ -1,0 +1,17 @@
+pub mod Cases
+pub mod Places
+pub mod Leading
+pub mod Further
+pub mod NumberSizes
+pub mod CharacterSizes
+pub mod Decoded
+pub mod SaidInAscii
+pub mod Spelt
+pub mod Behind
+pub mod Turning
+pub mod Ending
+pub mod Quoted
+pub mod Bracketed
+pub mod Nested
+pub mod Named
+pub mod Scalars

@@ -1,0 +1,19 @@
+-- `octet`: past the end it is 0.
+-- Assumes nothing.
+use mathlib.Core.Path.{sym}
+use borrow.Author.Needs.{needs}
+use lib.ListN.{List·getD-eq-default}
+use Rattle.json.proofs.octets.octet.Statement.{statement}
+use Rattle.json.proofs.octets.octet.Tie as tie
+
+shared-slice-read-result : tie.Need-shared-slice-read-result
+shared-slice-read-result c = search needs
+
+returns : tie.Need-returns
+returns c = search needs
+
+returns-2 : tie.Need-returns-2
+returns-2 c = sym (List·getD-eq-default (c .before .args .text .now) 0 (c .if1 .left))
+
+pub octet-spec : {M : Type 1} → statement M
+octet-spec = tie.close (tie.spec shared-slice-read-result returns returns-2)
