@@ -1,1 +1,2 @@
-// Tests in an order, as document 01 has them: laws of what the first that refuses gives, in proofs/.
+// Laws of the words that document 01 uses throughout, in proofs/: what the first of several tests gives, and
+// bytes put at a place.

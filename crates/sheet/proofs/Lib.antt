@@ -1,6 +1,4 @@
-pub mod Decimals
 pub mod Lengths
-pub mod Placing
 pub mod Spelling
 pub mod Sheets
 pub mod Counted

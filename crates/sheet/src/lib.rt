@@ -2,7 +2,6 @@
 mod counting;
 mod lines;
 mod printing;
-mod text;
 
 pub use lines::refusal_line;
 pub use lines::row_line;

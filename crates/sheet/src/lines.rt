@@ -1,13 +1,13 @@
 // The lines of document 01, "The matrix printer".
 ghost use mathlib.Core.List.{_++_};
 ghost use mathlib.Core.Path.{_≡_};
+ghost use lib.ListN.{take};
 ghost use Rattle.io.specs.Counts.{Counts};
-ghost use Rattle.rules.specs.Printer.{lengthWritten, outputText, refusalLine, rowLine, space, title, written, zeroOrOne, zoneText};
-use crate::text::line;
-use crate::text::number_text;
+ghost use Rattle.rules.specs.Printer.{decimal, lengthWritten, outputText, refusalLine, rowLine, space, title, written, zeroOrOne, zoneText};
 use rules::NOT_REPLAYED;
 use rules::RowFields;
 use rules::ZoneDigits;
+use text::in_a_row;
 
 // Writes the title line at the start of out, and answers its length. Where it does not fit,
 // nothing is written and the answer is 0. (That the length counts bytes of out follows from the
@@ -17,7 +17,7 @@ pub fn title_line(out: &mut [u8]) -> usize
     ensures { λ _. ⌜ now (out .exit) ≡ written title (now (out .entry)) ⌝ }
     ensures { λ r. ⌜ Counts r (now (out .exit)) ⌝ }
 {
-    line(out, b"entry", b" zones ", b"outputs ", b"answer")
+    in_a_row(out, b"entry", b" zones ", b"outputs ", b"answer", b"\n")
 }
 
 // Writes a row's line, as title_line does.
@@ -33,12 +33,13 @@ pub fn row_line(out: &mut [u8], fields: RowFields) -> usize
     let outputs = output_column(fields.outputs);
     let mut answer = [0u8; 20];
     let answer_length = number_text(fields.answer as u64, &mut answer);
-    line(
+    in_a_row(
         out,
         &entry[..entry_length],
         &zones,
         &outputs,
         &answer[..answer_length],
+        b"\n",
     )
 }
 
@@ -52,16 +53,17 @@ pub fn refusal_line(out: &mut [u8], answer: u8, entry: u64) -> usize
     let mut number = [0u8; 20];
     let length = number_text(answer as u64, &mut number);
     if answer != NOT_REPLAYED {
-        return line(out, b"refused ", &number[..length], b"", b"");
+        return in_a_row(out, b"refused ", &number[..length], b"", b"", b"\n");
     }
     let mut named = [0u8; 20];
     let named_length = number_text(entry, &mut named);
-    line(
+    in_a_row(
         out,
         b"refused ",
         &number[..length],
         b" at ",
         &named[..named_length],
+        b"\n",
     )
 }
 
@@ -102,4 +104,12 @@ fn digit(one: bool) -> u8
     ensures { λ r. ⌜ r ≡ zeroOrOne one ⌝ }
 {
     if one { b'1' } else { b'0' }
+}
+
+// Puts a number's decimal digits at the start of text, and answers how many there are.
+fn number_text(number: u64, text: &mut [u8; 20]) -> usize
+    ensures { λ r. ⌜ Counts r (now (text .exit)) ⌝ }
+    ensures { λ r. ⌜ take r (now (text .exit)) ≡ decimal number ⌝ }
+{
+    io::decimal(number, text)
 }

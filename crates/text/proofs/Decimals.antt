@@ -39,13 +39,16 @@ fewest : (more least n r : ℕ) → n < 10 ^ (least + more) → Fewest 10 least 
 fewest zero least n r h f = only n least r f (rw add-zero at h)
 fewest (suc more) least n r h f =
     by-test (λ k. r ≡ k) (ltb n (10 ^ least)) (λ t. only n least r f (ltb-true n (10 ^ least) t))
-    (λ t. fewest more (suc least) n r (rw (add-suc, ← suc-add) at h) (more-than n least r f (ltb-false n (10 ^ least) t)))
+    (λ t.
+    fewest more (suc least) n r (rw (add-suc, ← suc-add) at h) (more-than n least r f (ltb-false n (10 ^ least) t)))
 
 -- the kit's digits are letters from ten on, and a decimal one is not
 same-digits : (k n : ℕ) → digits 10 k n ≡ lastDigits k n
 same-digits zero n = refl
 same-digits (suc k) n =
-    ap₂ (λ (l : List ℕ) (b : Bool). l ++ (cond b (48 + n % 10) (87 + n % 10) ∷ [])) (same-digits k (n / 10)) (lt-ltb (n % 10) 10 (omega arith))
+    ap₂ (λ (l : List ℕ) (b : Bool). l ++ (cond b (48 + n % 10) (87 + n % 10) ∷ []))
+    (same-digits k (n / 10))
+    (lt-ltb (n % 10) 10 (omega arith))
 
 -- So a u64's digits, as `io::decimal` writes them, are the definition's.
 pub decimal-is : (n r : ℕ) → n < 10 ^ 20 → Fewest 10 1 n r → digits 10 r n ≡ decimal n
@@ -58,7 +61,8 @@ digits-length (suc k) n = rw length-append (omega (arith, digits-length k (n / 1
 
 at-least : (more least n : ℕ) → least ≤ placesFrom more least n
 at-least zero least n = omega arith
-at-least (suc more) least n = by-test (λ k. least ≤ k) (ltb n (10 ^ least)) (λ t. omega arith) (λ t. omega (arith, at-least more (suc least) n))
+at-least (suc more) least n =
+    by-test (λ k. least ≤ k) (ltb n (10 ^ least)) (λ t. omega arith) (λ t. omega (arith, at-least more (suc least) n))
 
 at-most : (more least n k : ℕ) → least ≤ k → n < 10 ^ k → placesFrom more least n ≤ k
 at-most zero least n k h s = h
@@ -77,3 +81,10 @@ decimal-most n k h s = rw digits-length (at-most 20 1 n k h s)
 pub decimal-one : (n : ℕ) → n < 10 → length (decimal n) ≡ 1
 unfolding decimal
 decimal-one n s = rw digits-length (omega (arith, at-least 20 1 n, at-most 20 1 n 1 (omega arith) s))
+
+-- and that one is the number itself
+pub decimal-digit : (n : ℕ) → n < 10 → decimal n ≡ (48 + n) ∷ []
+unfolding decimal
+decimal-digit n s =
+    let last : n % 10 ≡ n = omega arith in
+    ap (λ (b : Bool). lastDigits (cond b 1 (placesFrom 19 2 n)) n) (lt-ltb n 10 s) ∙ ap (λ (d : ℕ). (48 + d) ∷ []) last

@@ -2,9 +2,9 @@
 -- Assumes nothing.
 use mathlib.Core.Path.{refl}
 use borrow.Author.Needs.{needs}
-use Rattle.register.proofs.Placing.{copied}
-use Rattle.sheet.proofs.text.put.Statement.{statement}
-use Rattle.sheet.proofs.text.put.Tie as tie
+use Rattle.chains.proofs.Placing.{copied}
+use Rattle.text.proofs.put.Statement.{statement}
+use Rattle.text.proofs.put.Tie as tie
 
 sub-copy : tie.Need-sub-copy
 sub-copy c = search needs
