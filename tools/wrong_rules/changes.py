@@ -5,9 +5,8 @@ is none.
 """
 import collections
 import itertools
+import json
 import re
-
-from wrong_rules.paper import SPECS
 
 Edit = collections.namedtuple("Edit", "start end text")
 
@@ -48,6 +47,7 @@ class Changes:
         self.elsewhere = {}  # words of other files that a change may say, and the file
         self.by_kind = {
             "number": self.of_number,
+            "text": self.of_text,
             "field": self.of_field,
             "record": self.of_record,
             "test": self.of_test,
@@ -84,15 +84,24 @@ class Changes:
             return []
         return [put(one, self.text(other)), put(other, self.text(one))]
 
-    # ---- numbers and names
+    # ---- numbers, texts and names
 
     def of_number(self, node):
-        number = int(node.word)
-        yield "a number one more", [put(node, str(number + 1))]
+        number, write = int(node.word, 0), "0x{:02X}".format if node.word.startswith("0x") else str
+        yield "a number one more", [put(node, write(number + 1))]
         if number > 0:
-            yield "a number one less", [put(node, str(number - 1))]
+            yield "a number one less", [put(node, write(number - 1))]
         if number in (0, 1, 3, 4):
-            yield "an island of the other side", [put(node, str(4 - number))]
+            yield "an island of the other side", [put(node, write(4 - number))]
+
+    def of_text(self, node):
+        text = json.loads(node.word)  # of ASCII: its escapes are JSON's too
+        for shorter in dict.fromkeys([text[1:], text[:-1]]):
+            yield "a letter of a text left out", [put(node, json.dumps(shorter))]
+        other = text[:-1] + chr(ord(text[-1]) + 1)
+        yield "a letter of a text another", [put(node, json.dumps(other))]
+        if text != text[::-1]:
+            yield "a text backwards", [put(node, json.dumps(text[::-1]))]
 
     def of_name(self, node, clause):
         if node.word in ("true", "false"):
@@ -143,7 +152,7 @@ class Changes:
     def note(self, home, words):
         """These words stand in the file of that one."""
         for word in words:
-            self.elsewhere[word] = SPECS + home.module
+            self.elsewhere[word] = self.paper.path_between(self.module.name, home.module)
 
     # ---- fields and records
 

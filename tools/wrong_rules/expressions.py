@@ -32,6 +32,7 @@ class Node:
 
     By its kind, word and parts are:
       number, name  the word itself, no parts
+      text          the word itself, with its quotation marks, no parts
       app           a function and its arguments
       field         the field's name, and of what it is read
       op            the operator, and its two operands
@@ -61,14 +62,18 @@ class Node:
 # ---- words
 
 
+# A text in quotation marks, a comment, a bracket or a word.
+WORD = re.compile(r'"(?:\\.|[^"\\])*"|--.*|[(){};]|[^\s(){};"]+')
+
+
 def tokens_of(text):
-    """Words and brackets outside comments and `use` lines."""
+    """Words, texts and brackets outside comments and `use` lines."""
     found, line_start = [], 0
     for line in text.split("\n"):
-        code = line.split("--")[0]
-        if not code.startswith("use "):
-            for word in re.finditer(r"[(){};]|[^\s(){};]+", code):
-                found += word_tokens(word.group(), line_start, word.start())
+        if not line.startswith("use "):
+            for word in WORD.finditer(line):
+                if not word.group().startswith("--"):
+                    found += word_tokens(word.group(), line_start, word.start())
         line_start += len(line) + 1
     return found
 
@@ -76,7 +81,7 @@ def tokens_of(text):
 def word_tokens(word, line_start, column):
     """The dot that ends the parameters of a λ is a word of its own."""
     start, end = line_start + column, line_start + column + len(word)
-    if len(word) > 1 and word.endswith("."):
+    if len(word) > 1 and word.endswith(".") and not word.startswith('"'):
         return [Token(word[:-1], start, end - 1, column), Token(".", end - 1, end, column + len(word) - 1)]
     return [Token(word, start, end, column)]
 
@@ -107,6 +112,13 @@ def split(tokens, mark):
 
 
 # ---- expressions
+
+
+def kind_of(word):
+    """Of a word that stands alone. A number is in decimal digits, or in hexadecimal ones behind 0x."""
+    if word.startswith('"'):
+        return "text"
+    return "number" if word.isdigit() or word.startswith("0x") else "name"
 
 
 class Expressions:
@@ -175,8 +187,7 @@ class Expressions:
             return self.let(token)
         if token.text == "record" and self.peek() == "{":
             return self.record(token)
-        kind = "number" if token.text.isdigit() else "name"
-        return Node(kind, token.start, token.end, token.text)
+        return Node(kind_of(token.text), token.start, token.end, token.text)
 
     def function(self, token):
         parameters = []

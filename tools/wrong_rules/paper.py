@@ -1,4 +1,6 @@
-"""Reads .antt: whole files, and all that the crate rules has of them. The believed definitions are the paper here."""
+"""Reads .antt: whole files, and all that the crates rules_json and rules have of them. The believed definitions are the
+paper here.
+"""
 import collections
 import os
 import re
@@ -6,13 +8,31 @@ import re
 from wrong_rules.expressions import Expressions, blocks, split, tokens_of
 
 TOP = os.path.dirname(os.path.dirname(os.path.dirname(os.path.abspath(__file__))))
-CRATE = os.path.join(TOP, "crates", "rules")
-SPECS = "Rattle.rules.specs."  # how a `use` names the crate's definition files
+CRATES = ["rules_json", "rules"]  # in their order; the rows and the proofs of them are of the last one
 
 Clause = collections.namedtuple("Clause", "patterns body start end")
 Home = collections.namedtuple("Home", "module word")  # where a word is defined
 # A list of rows, and whether one theorem holds them all, or one theorem each.
 Table = collections.namedtuple("Table", "module word in_one")
+
+
+def specs_path(crate, inside):
+    """How a `use` names a crate's definition files, in a definition file of the crate itself and in one of another."""
+    return f"Rattle.{crate}.specs." if inside else f"Rattle.{crate}.specs."
+
+
+def module_of(path):
+    """The definition file that a `use` names; None for a file of the library and a type of lib.rt."""
+    for crate in CRATES:
+        for start in (specs_path(crate, True), specs_path(crate, False)):
+            if path.startswith(start) and not path.startswith(start + "declared."):
+                return path[len(start):]
+    return None
+
+
+def is_relation(types):
+    """A rule of the grammar, which has texts or has not: a type, and nothing that is computed."""
+    return types[-1] == "Rule" or types[-1].startswith("Type ")
 
 
 class Definition:
@@ -78,9 +98,14 @@ class Module:
         if any(token.text == "≡" for token in tokens):
             self.theorems.add(name)
         types = [" ".join(token.text for token in part) for part in split(tokens, "→")]
-        self.latest = self.definitions[name] = Definition(name, types, before)
+        types = [kind for kind in types if not kind.startswith("{")]  # what is not written where it is called
+        self.latest = None if is_relation(types) else Definition(name, types, before)
+        if self.latest:
+            self.definitions[name] = self.latest
 
     def read_clause(self, item):
+        if self.latest is None:
+            return
         left = split(item, "=")[0]
         right = item[len(left) + 1:]
         operator = self.latest.name.split("_")  # _▷_ is written between its operands
@@ -110,37 +135,48 @@ def logic_type(kind):
     return "Bool" if kind == "bool" else kind
 
 
-def text_of(*path):
-    with open(os.path.join(CRATE, *path), encoding="utf-8") as file:
+def text_of(crate, *path):
+    with open(os.path.join(TOP, "crates", crate, *path), encoding="utf-8") as file:
         return file.read()
 
 
-def modules_named(*path):
-    return re.findall(r"^pub mod (\w+)", text_of(*path), re.M)
+def modules_named(crate, *path):
+    return re.findall(r"^pub mod (\w+)", text_of(crate, *path), re.M)
 
 
 class Paper:
     """Everything that is read: definition files, row files, the tables that the proofs compute, the structs."""
 
     def __init__(self):
-        self.structs = structs_of(text_of("src", "lib.rt"))
-        self.order = [name for name in modules_named("specs", "Lib.antt") if name != "rows"]
-        self.modules = {}
-        for name in self.order:
-            self.modules[name] = Module(name, text_of("specs", name + ".antt"))
-        for name in modules_named("specs", "rows.antt"):
-            self.modules["rows." + name] = Module("rows." + name, text_of("specs", "rows", name + ".antt"))
-        self.tables = self.tables_of(modules_named("proofs", "Lib.antt"))
+        last = CRATES[-1]
+        self.structs = structs_of(text_of(last, "src", "lib.rt"))
+        self.crates = {}  # the crate of each definition file, in the files' order
+        for crate in CRATES:
+            for name in modules_named(crate, "specs", "Lib.antt"):
+                if name != "rows":
+                    self.crates[name] = crate
+        self.order, self.modules = list(self.crates), {}
+        for name, crate in self.crates.items():
+            self.modules[name] = Module(name, text_of(crate, "specs", name + ".antt"))
+        for name in modules_named(last, "specs", "rows.antt"):
+            self.modules["rows." + name] = Module("rows." + name, text_of(last, "specs", "rows", name + ".antt"))
+        self.tables = self.tables_of(modules_named(last, "proofs", "Lib.antt"))
 
     def tables_of(self, proofs):
         """The table that each proof file computes, by the file's name."""
         found = {}
         for name in proofs:
-            proof = Module(name, text_of("proofs", name + ".antt"))
+            proof = Module(name, text_of(CRATES[-1], "proofs", name + ".antt"))
             for word, path in proof.used.items():
-                if path.startswith(SPECS + "rows.") and self.is_table(Home(path[len(SPECS):], word)):
-                    found[name] = Table(path[len(SPECS):], word, "rows" in proof.theorems)
+                module = module_of(path) or ""
+                if module.startswith("rows.") and self.is_table(Home(module, word)):
+                    found[name] = Table(module, word, "rows" in proof.theorems)
         return found
+
+    def path_between(self, module, other):
+        """How a `use` in one definition file names another."""
+        crate = self.crates[other]
+        return specs_path(crate, crate == self.crates[module]) + other
 
     def is_table(self, home):
         definition = self.definition(home)
@@ -151,9 +187,9 @@ class Paper:
         for spelling in (word, "_if_then_" if word == "if" else f"_{word}_"):
             if spelling in module.definitions or any(spelling in words for words in module.data.values()):
                 return Home(module.name, spelling)
-            path = module.used.get(spelling, "")
-            if path.startswith(SPECS) and not path.startswith(SPECS + "declared."):
-                return Home(path[len(SPECS):], spelling)
+            there = module_of(module.used.get(spelling, ""))
+            if there:
+                return Home(there, spelling)
         return None
 
     def definition(self, home):

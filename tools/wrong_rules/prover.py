@@ -7,32 +7,37 @@ import subprocess
 import sys
 import tempfile
 
-from wrong_rules.paper import CRATE
+from wrong_rules.paper import CRATES, TOP
 
 LONGEST = 900  # seconds that the prover may take
 
 
 class Prover:
-    """A repository of the crate rules alone, in a temporary folder, which has been checked once."""
+    """A repository of the crates rules_json and rules alone, in a temporary folder, which has been checked once."""
 
     def __init__(self, with_rows):
         self.root = tempfile.mkdtemp(prefix="wrong-rules-")
         atexit.register(shutil.rmtree, self.root, ignore_errors=True)
-        self.crate = os.path.join(self.root, "crates", "rules")
-        for part in ["src", "specs", "proofs"] if with_rows else ["src", "specs"]:
-            shutil.copytree(os.path.join(CRATE, part), os.path.join(self.crate, part))
+        for crate in CRATES:
+            for part in ["src", "specs", "proofs"] if with_rows else ["src", "specs"]:
+                self.copy(crate, part)
         with open(os.path.join(self.root, "crates.txt"), "w") as file:
-            file.write("rules:\n")
+            file.write("rules_json:\nrules: rules_json\n")
         status, said = self.check()
         if status != 0:
-            sys.exit("the crate rules is not proved as it stands:\n" + said)
+            sys.exit("the crates rules_json and rules are not proved as they stand:\n" + said)
         shutil.copytree(os.path.join(self.root, "target"), os.path.join(self.root, "warm"))
 
-    def check(self):
-        """The prover's status, and what it says."""
+    def copy(self, crate, part):
+        path = os.path.join("crates", crate, part)
+        if os.path.exists(os.path.join(TOP, path)):
+            shutil.copytree(os.path.join(TOP, path), os.path.join(self.root, path))
+
+    def check(self, crate=CRATES[-1]):
+        """The prover's status, and what it says of a crate, once those below it are proved."""
         try:
             done = subprocess.run(
-                ["rt", "dev", "rules"],
+                ["rt", "dev", crate],
                 cwd=self.root,
                 env=dict(os.environ, RT_JOBS="1"),
                 text=True,
@@ -49,40 +54,40 @@ class Prover:
         shutil.rmtree(os.path.join(self.root, "target"))
         shutil.copytree(os.path.join(self.root, "warm"), os.path.join(self.root, "target"))
 
-    def path(self, name):
-        return os.path.join(self.crate, "specs", name + ".antt")
+    def path(self, crate, name):
+        return os.path.join(self.root, "crates", crate, "specs", name + ".antt")
 
-    def read(self, name):
-        with open(self.path(name), encoding="utf-8") as file:
+    def read(self, crate, name):
+        with open(self.path(crate, name), encoding="utf-8") as file:
             return file.read()
 
-    def write(self, name, text):
-        with open(self.path(name), "w", encoding="utf-8") as file:
+    def write(self, crate, name, text):
+        with open(self.path(crate, name), "w", encoding="utf-8") as file:
             file.write(text)
 
-    def unreadable(self, wrongs):
-        """Which of them cannot be read: each stands as a file of its own beside the right ones."""
+    def unreadable(self, crate, wrongs):
+        """Which of them, all of a crate, cannot be read: each stands as a file of its own beside the right ones."""
         names = {f"Wrong{at}": wrong for at, wrong in enumerate(wrongs)}
-        right = self.read("Lib")
+        right = self.read(crate, "Lib")
         for name, wrong in names.items():
-            self.write(name, wrong.text)
-        self.write("Lib", right + "".join(f"pub mod {name}\n" for name in names))
-        _, said = self.check()
+            self.write(crate, name, wrong.text)
+        self.write(crate, "Lib", right + "".join(f"pub mod {name}\n" for name in names))
+        _, said = self.check(crate)
         bad = set(re.findall(r"specs/(\w+)\.antt:\d+:\d+: error", said))
         if bad - set(names) or not re.search("^logic=", said, re.M):
             sys.exit("the prover did not read the wrong rules:\n" + said[:4000])
         for name in names:
-            os.remove(self.path(name))
-        self.write("Lib", right)
+            os.remove(self.path(crate, name))
+        self.write(crate, "Lib", right)
         self.again()
         return [names[name] for name in bad]
 
     def refusing(self, wrong):
         """The theorems that are refused with this wrong rule in the place of the right one; None if it cannot tell."""
-        right = self.read(wrong.file)
-        self.write(wrong.file, wrong.text)
+        right = self.read(wrong.crate, wrong.file)
+        self.write(wrong.crate, wrong.file, wrong.text)
         status, said = self.check()
-        self.write(wrong.file, right)
+        self.write(wrong.crate, wrong.file, right)
         self.again()
         theorems = sorted(set(re.findall(r"proofs/(\w+)\.antt:\d+:\d+: error: `([^`]+)`", said)))
         return theorems if status == 0 or theorems else None

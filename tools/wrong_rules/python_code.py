@@ -28,7 +28,12 @@ WORDS = {
     "take": (2, "first({}, {})"),
     "drop": (2, "past({}, {})"),
     "replicate": (2, "times({}, {})"),
+    "len": (1, "len({})"),
+    "charAt": (2, "letter({}, {})"),
+    "code": (1, "ord({})"),
 }
+# The library's constructors, and how many parts they have.
+CONSTRUCTORS = {"none": 0, "some": 1}
 OPERATORS = {
     "&&": "({} and {})",
     "||": "({} or {})",
@@ -69,7 +74,11 @@ FUNCTIONS = {
     "times": lambda number, item: (item,) * number,
     "quotient": lambda number, divisor: number // divisor if divisor else 0,
     "remainder": lambda number, divisor: number % divisor if divisor else number,
+    "letter": lambda text, at: text[at] if at < len(text) else "\0",
 }
+# Sizes in a text that are asked for again and again.
+SIZES = ["blanks", "digits", "numberSize", "stringSize", "nameSize", "valueSize", "textSize"]
+REMEMBERED = {Home("Reader", word) for word in SIZES}
 
 
 def python_name(word):
@@ -113,6 +122,7 @@ class Coder:
         self.records = {frozenset(fields): fields for fields in records}
         self.by_kind = {
             "number": lambda node: node.word,
+            "text": lambda node: node.word,
             "name": lambda node: self.call(node, []),
             "app": lambda node: self.call(node.parts[0], list(map(self.code, node.parts[1:]))),
             "field": lambda node: f"{self.code(node.parts[0])}.{field_name(node.word)}",
@@ -141,7 +151,7 @@ class Coder:
             self.enter(module, definition.before, names)
             lines.append("    " + self.clause(clause, names[len(definition.before):], lazy))
         lines.append("    raise LookupError('no clause')")
-        if len(definition.types) == 1 or definition.types == ["Station", "Station"]:
+        if len(definition.types) == 1 or definition.types == ["Station", "Station"] or home in REMEMBERED:
             lines.insert(0, "@remembered")
         return "\n".join(lines) + "\n"
 
@@ -184,7 +194,7 @@ class Coder:
             return self.match_constructor(pattern.parts[0].word, pattern.parts[1:], code)
         if pattern.word in PATTERNS:
             return [PATTERNS[pattern.word].format(code)]
-        if self.paper.constructors(self.paper.home(self.module, pattern.word)):
+        if pattern.word in CONSTRUCTORS or self.paper.constructors(self.paper.home(self.module, pattern.word)):
             return [f"{code} == {pattern.word!r}"]
         self.locals[pattern.word] = code
         return []
@@ -211,7 +221,7 @@ class Coder:
             return self.library(head.word, arguments)
         definition = self.paper.definition(home)
         if definition is None:
-            return self.constructor(home, arguments)
+            return self.constructor(home.word, self.paper.constructors(home)[home.word], arguments)
         if home.module == self.module.name and definition.before == self.before:
             arguments = [self.locals[word] for word in self.before] + arguments
         return self.applied(home, arguments)
@@ -224,13 +234,14 @@ class Coder:
             return f"{function_name(home)}({', '.join(codes)})"
         return partly(self.paper.definition(home).arity, arguments, write)
 
-    def constructor(self, home, arguments):
-        arity = self.paper.constructors(home)[home.word]
+    def constructor(self, word, arity, arguments):
         if arity == 0:
-            return repr(home.word)
-        return partly(arity, arguments, lambda given: f"({home.word!r}, {', '.join(given)})")
+            return repr(word)
+        return partly(arity, arguments, lambda given: f"({word!r}, {', '.join(given)})")
 
     def library(self, word, arguments):
+        if word in CONSTRUCTORS:
+            return self.constructor(word, CONSTRUCTORS[word], arguments)
         if word not in WORDS:
             if arguments:
                 raise SyntaxError(f"the evaluator does not know {word}")

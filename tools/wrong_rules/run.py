@@ -10,6 +10,7 @@ import signal
 import sys
 import time
 
+from wrong_rules.paper import CRATES
 from wrong_rules.prover import Prover
 from wrong_rules.rows import Rows
 
@@ -106,12 +107,16 @@ class Run:
 
     def read_all(self):
         """The prover reads the changed files, many in one run."""
-        wrongs = self.left()
-        reader = Prover(with_rows=False) if wrongs else None
-        for at in range(0, len(wrongs), TOGETHER):
-            for wrong in reader.unreadable(wrongs[at:at + TOGETHER]):
-                self.tell(wrong, UNREADABLE)
-            self.progress("read", min(at + TOGETHER, len(wrongs)), len(wrongs))
+        left = self.left()
+        reader, done = Prover(with_rows=False) if left else None, 0
+        for crate in CRATES:
+            wrongs = [wrong for wrong in left if wrong.crate == crate]
+            for at in range(0, len(wrongs), TOGETHER):
+                some = wrongs[at:at + TOGETHER]
+                for wrong in reader.unreadable(crate, some):
+                    self.tell(wrong, UNREADABLE)
+                done += len(some)
+                self.progress("read", done, len(left))
 
     def compute_all(self, pool):
         """The rows are computed. What none refuses is given back, each with the number of parts that took too long."""

@@ -1,4 +1,8 @@
 -- The definitions that the rows compute with. Whoever says `unfolding computed` opens them all.
+use Rattle.rules_json.specs.Reader.{blanks, bracketedSaid, bracketedSize, isText, nameSize, textSaid, textSize, valueSaid, valueSize}
+use Rattle.rules_json.specs.Reader.{charSize, charUnits, decoded, escapeSize, stringSize, stringUnits, utf8Size}
+use Rattle.rules_json.specs.Reader.{digits, expSize, fracSize, intSize, numberSize, scalarSaid, scalarSize}
+use Rattle.rules_json.specs.Utf8.{utf16}
 use Rattle.rules.specs.Answers.{answerOf, formAnswer, placeAnswer, stateAnswer, stationAfter, taken}
 use Rattle.rules.specs.Aspect.{aspectOf, freshAdvance, freshNear, greatestRisk, presenceOf, present, someFresh, someHeld}
 use Rattle.rules.specs.Heads.{headOutputs, headsOf}
@@ -8,6 +12,7 @@ use Rattle.rules.specs.Outputs.{outputsOf}
 use Rattle.rules.specs.Printer.{decimal, lengthWritten, printed, refusalLine, rowLine, rowLines, sheetOf, title, written, zonesOf}
 use Rattle.rules.specs.Register.{after, appendAnswer, appended, appendedBytes, entryAnswer, firstWrong, handedBack, handedBackAt, headAnswer, lengthAnswer, readAnswer, readOf, readingOf, registerAnswer, startAnswer, started, stepAnswer, stepOf}
 use Rattle.rules.specs.Reports.{acted, allOlder, detectorNow, faultLatched, freeNow, holdLowered, holdSet, late, leavingMark, occupiedNow, older, olderTrack, tick, ticks, withIsland}
+use Rattle.rules.specs.Screen.{afterWriting, isTaken, messageFits, messageOf, ourNumber, readingAnswer, received, tracksOf, writingAnswer, writtenOf}
 use Rattle.rules.specs.Siting.{advanceSited, warningSited}
 use Rattle.rules.specs.Station.{freshStation, made, obstructed, settingsAnswer, someFailed, someOccupied, trackAt, withCondition, withTrack, withinLimits}
 use Rattle.rules.specs.Words.{_if_then_, _▷_}
@@ -60,6 +65,30 @@ ofSheets : Unit {0}
 unfolding refusalLine rowLine title printed rowLines sheetOf decimal lengthWritten written
 ofSheets = tt
 
+ofStrings : Unit {0}
+unfolding utf16 utf8Size decoded escapeSize charSize charUnits stringSize stringUnits
+ofStrings = tt
+
+ofScalars : Unit {0}
+unfolding digits intSize fracSize expSize numberSize scalarSize scalarSaid
+ofScalars = tt
+
+ofTexts : Unit {0}
+unfolding blanks bracketedSize bracketedSaid nameSize valueSize valueSaid textSize isText textSaid
+ofTexts = tt
+
+ofMessages : Unit {0}
+unfolding Rattle.rules.specs.Screen.written messageOf messageFits writingAnswer writtenOf afterWriting
+ofMessages = tt
+
+ofReceived : Unit {0}
+unfolding isTaken ourNumber tracksOf readingAnswer received
+ofReceived = tt
+
+ofScreens : Unit {0}
+unfolding ofStrings ofScalars ofTexts ofMessages ofReceived
+ofScreens = tt
+
 unfoldable pub computed : Unit {0}
-unfolding ofWords ofSignals ofSiting ofMarks ofTracks ofStations ofTheClock ofReports ofTheLayout ofRegisters ofReadings ofSheets
+unfolding ofWords ofSignals ofSiting ofMarks ofTracks ofStations ofTheClock ofReports ofTheLayout ofRegisters ofReadings ofSheets ofScreens
 computed = tt

@@ -2,9 +2,13 @@ pub mod BrowseRows
 pub mod Computed
 pub mod FurtherRows
 pub mod HouseRows
+pub mod ReadingRows
 pub mod Refusals
 pub mod RegisterRefusals
 pub mod RegisterRows
 pub mod Rows
+pub mod ScreenRows
 pub mod SheetRows
 pub mod StationRows
+pub mod StringRows
+pub mod TextRows

@@ -15,5 +15,7 @@ pub mod Browser
 pub mod Numbers
 pub mod Answers
 pub mod Printer
+-- Document 02, request 1
+pub mod Screen
 -- What tries it.
 pub mod rows

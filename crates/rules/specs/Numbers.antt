@@ -58,3 +58,11 @@ notReplayed = 13
 -- stepping back to, or handing back, a row above the count; handing back row 0
 abbrev pub noSuchRow : ℕ
 noSuchRow = 14
+
+-- (document 02, request 1) not RFC 8259 text, too long or too deep
+abbrev pub notJson : ℕ
+notJson = 15
+
+-- one of our members missing, of another form or outside its range
+abbrev pub badMember : ℕ
+badMember = 16

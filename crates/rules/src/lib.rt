@@ -202,6 +202,10 @@ pub const NOT_REPLAYED: u8 = 13;
 
 pub const NO_SUCH_ROW: u8 = 14;
 
+pub const NOT_JSON: u8 = 15;
+
+pub const BAD_MEMBER: u8 = 16;
+
 // ---- "The matrix printer"
 
 // 0 where any track occupies the island, else 1, in island order.
@@ -215,4 +219,34 @@ pub struct RowFields {
     pub zones: ZoneDigits,
     pub outputs: u16,
     pub answer: u8,
+}
+
+// ---- document 02, request 1: "Aspect to the passenger screens"
+
+// Five digits for each track, in island order: 0 occupied, 1 free. Past the number of tracks they are 0.
+pub type TrackDigits = [u8; 20];
+
+// What the information desk is told.
+#[repr(C)]
+pub struct Message {
+    pub station: u16,
+    pub aspect: u8,
+    pub tracks: u8,
+    pub digits: TrackDigits,
+}
+
+// What reading a text gives: an answer, 0, 15 or 16, and the message, which is zeros and no tracks
+// where the answer is not 0.
+#[repr(C)]
+pub struct Received {
+    pub answer: u8,
+    pub message: Message,
+}
+
+// What writing a message gives: an answer, 0, 16 or 12, and the length of the text, which is 0 where
+// the answer is not.
+#[repr(C)]
+pub struct Written {
+    pub answer: u8,
+    pub length: usize,
 }
