@@ -4,6 +4,7 @@
 // A slice is a pointer and a length, a struct goes by value, and an array as a result stands in a
 // struct. Whoever declares them elsewhere, as host/ does, repeats each struct field by field.
 mod registers;
+mod screens;
 mod sheets;
 mod sitings;
 mod stations;

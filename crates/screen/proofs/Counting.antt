@@ -1,0 +1,220 @@
+-- Our numbers: octet by octet, and where there is none.
+-- Assumes nothing.
+use Prim.Native.Nat.{ℕ, zero, suc, _+_, _-_, _*_, _≤_, _<_}
+use mathlib.Core.Bool.{Bool, cond, false, not, true, _&&_, _||_}
+use mathlib.Core.List.{List, [], _∷_}
+use mathlib.Core.Option.{none}
+use mathlib.Core.Path.{_≡_, ap, refl, sym, _∙_}
+use native.Mathlib.Numerals.{add-one}
+use native.Mathlib.Omega.{arith}
+use borrow.Author.Tests.{eqb-true, leb-false, le-leb, lt-leb, ne-eqb}
+use lib.Dec.{eqb, leb}
+use lib.ListN.{drop, drop-of-length-le, getD, length, length-drop, take}
+use lib.Seq.{drop-cons}
+use Rattle.json.proofs.Cases.{by-test}
+use Rattle.json.proofs.Nested.{scalar-value}
+use Rattle.json.proofs.Places.{first-behind, taken-in-text}
+use Rattle.rules.specs.Screen.{isEmpty, numberAfter, numberOf, numberText, orElse, ourNumber, provided}
+use Rattle.rules.specs.Words.{any}
+use Rattle.rules_json.specs.Grammar.{digit}
+use Rattle.rules_json.specs.Reader.{at, numberSize, scalarSaid, scalarSize, valueSaid, valueSize}
+use Rattle.rules_json.specs.Tree.{Member, Tree, array, number, object, scalar, string, false-literal, null-literal}
+use Rattle.rules_json.specs.Tree.{true-literal}
+use Rattle.screen.proofs.Within.{number-within}
+use Rattle.screen.specs.Places.{numberHere}
+
+abbrev pub noDigit : ℕ → Bool
+noDigit b = not (digit b)
+
+-- ---- octet by octet
+
+-- the number of what is left, behind n, and 65536 where there is none
+pub counted : ℕ → List ℕ → ℕ
+counted n s = orElse 65536 (provided (not (any noDigit s) && leb (numberAfter n s) 65535) (numberAfter n s))
+
+pub grows : (n : ℕ) (s : List ℕ) → n ≤ numberAfter n s
+grows n [] = omega arith
+grows n (b ∷ s) = omega (arith, grows (10 * n + (b - 48)) s)
+
+never : (t : Bool) (n : ℕ) → _≡_ {A = ℕ} (orElse 65536 (provided (t && false) n)) 65536
+never true n = refl
+never false n = refl
+
+pub counted-whole : (text : List ℕ) → (length text ≡ 0 → ⊥) → counted 0 text ≡ orElse 65536 (ourNumber 65535 text)
+unfolding counted ourNumber
+counted-whole [] h = absurd (h refl)
+counted-whole (b ∷ text) h = refl
+
+pub counted-empty : (text : List ℕ) → length text ≡ 0 → 65536 ≡ orElse 65536 (ourNumber 65535 text)
+unfolding ourNumber
+counted-empty [] h = refl
+counted-empty (b ∷ text) h = absurd (omega arith)
+
+module _ (text : List ℕ) (place n : ℕ) where
+  pub counted-over : length text ≤ place → n < 65536 → counted n (drop place text) ≡ n
+  unfolding counted
+  counted-over h l =
+      ap (counted n) (drop-of-length-le text h) ∙ ap (λ t. orElse 65536 (provided t n)) (le-leb n 65535 (omega arith))
+
+  pub counted-great : 65536 ≤ n → counted n (drop place text) ≡ 65536
+  unfolding counted
+  counted-great h =
+      let rest = drop place text in
+      ap (λ t. orElse 65536 (provided (not (any noDigit rest) && t) (numberAfter n rest)))
+      (lt-leb (numberAfter n rest) 65535 (omega (arith, grows n rest)))
+      ∙ never (not (any noDigit rest)) (numberAfter n rest)
+
+  module _ (within : place < length text) where
+    abbrev here : ℕ
+    here = getD text place 0
+
+    abbrev after : ℕ
+    after = 10 * n + (here - 48)
+
+    by-first : (t : Bool) → digit here ≡ t
+        → counted n (drop place text)
+        ≡ orElse 65536 (provided (not (not t || any noDigit (drop (place + 1) text))
+        && leb (numberAfter after (drop (place + 1) text)) 65535) (numberAfter after (drop (place + 1) text)))
+    unfolding counted
+    by-first t e =
+        rw (add-one)
+        (ap (counted n) (drop-cons text place 0 within)
+        ∙ ap (λ d. orElse 65536 (provided (not (not d || any noDigit (drop (suc place) text))
+        && leb (numberAfter after (drop (suc place) text)) 65535) (numberAfter after (drop (suc place) text)))) e)
+
+    pub counted-other : digit here ≡ false → counted n (drop place text) ≡ 65536
+    counted-other h = by-first false h
+
+    pub counted-on : digit here ≡ true → counted n (drop place text) ≡ counted after (drop (place + 1) text)
+    unfolding counted
+    counted-on h = by-first true h
+
+-- ---- up to another most
+
+-- from the number up to 65535 the number up to any less
+pub ours-up-to : (most : ℕ) (text : List ℕ) → most ≤ 65535
+    → ourNumber most text ≡ provided (leb (orElse 65536 (ourNumber 65535 text)) most)
+    (orElse 65536 (ourNumber 65535 text))
+unfolding ourNumber
+ours-up-to most text h =
+    by-tests (not (isEmpty text) && not (any noDigit text)) (numberAfter 0 text) (leb (numberAfter 0 text) 65535) refl
+  where
+    by-tests : (good : Bool) (n : ℕ) (t : Bool) → leb n 65535 ≡ t
+        → provided (good && leb n most) n
+        ≡ provided (leb (orElse 65536 (provided (good && leb n 65535) n)) most)
+        (orElse 65536 (provided (good && leb n 65535) n))
+    by-tests false n t e = sym (ap (λ b. provided b 65536) (lt-leb 65536 most (omega arith)))
+    by-tests true n true e = rw e
+    by-tests true n false e =
+        rw e
+        (ap (λ b. provided b n) (lt-leb n most (omega (arith, leb-false n 65535 e)))
+        ∙ sym (ap (λ b. provided b 65536) (lt-leb 65536 most (omega arith))))
+
+-- ---- the number at the head of a text
+
+other-first : (most n : ℕ) (s : List ℕ) → digit (at s 0) ≡ false → ourNumber most (take n s) ≡ none
+unfolding ourNumber
+other-first most zero s h = refl
+other-first most (suc n) [] h = refl
+other-first most (suc n) (b ∷ s) h =
+    ap (λ d. provided (not (not d || any noDigit (take n s)) && leb (numberAfter 0 (b ∷ take n s)) most)
+    (numberAfter 0 (b ∷ take n s))) h
+
+other-kind : (most : ℕ) (quote f n t : Bool) (units text : List ℕ) → ourNumber most text ≡ none
+    → ourNumber most (numberText (cond quote (string units)
+    (cond f false-literal (cond n null-literal (cond t true-literal (number text)))))) ≡ none
+unfolding ourNumber
+other-kind most true f n t units text h = refl
+other-kind most false true n t units text h = refl
+other-kind most false false true t units text h = refl
+other-kind most false false false true units text h = refl
+other-kind most false false false false units text h = h
+
+-- what begins with another octet than a digit is no number of ours
+pub no-number : (most : ℕ) (s : List ℕ) → digit (at s 0) ≡ false → ourNumber most (numberText (scalarSaid s)) ≡ none
+unfolding scalarSaid
+no-number most s h =
+    other-kind most (eqb (at s 0) 0x22) (eqb (at s 0) 0x66) (eqb (at s 0) 0x6E) (eqb (at s 0) 0x74) _ _
+    (other-first most (numberSize s) s h)
+
+-- what a value's number is, is told by the scalar that begins there
+pub number-said : (most deep : ℕ) (s : List ℕ)
+    → numberOf most (valueSaid (suc deep) s) ≡ ourNumber most (numberText (scalarSaid s))
+unfolding valueSaid
+number-said most deep s = by-head (eqb (at s 0) 0x7B) (eqb (at s 0) 0x5B) refl refl _ _
+  where
+    bracket : (b : ℕ) → digit b ≡ false → eqb (at s 0) b ≡ true → ourNumber most (numberText (scalarSaid s)) ≡ none
+    bracket b h e = no-number most s (ap digit (eqb-true (at s 0) b e) ∙ h)
+
+    by-head : (t u : Bool) → eqb (at s 0) 0x7B ≡ t → eqb (at s 0) 0x5B ≡ u
+        → (members : List (Member (Tree deep))) (values : List (Tree deep))
+        → numberOf most (cond t (object members) (cond u (array values) (scalar (scalarSaid s))))
+        ≡ ourNumber most (numberText (scalarSaid s))
+    by-head true u e f members values = sym (bracket 0x7B refl e)
+    by-head false true e f members values = sym (bracket 0x5B refl f)
+    by-head false false e f members values = refl
+
+module _ (s : List ℕ) (h : digit (at s 0) ≡ true) where
+  pub other-than : (b : ℕ) → digit b ≡ false → eqb (at s 0) b ≡ false
+  other-than b n =
+      ne-eqb (at s 0) b (λ z. let o : true ≡ false = sym h ∙ ap digit z
+      ∙ n in let y : _≡_ {A = ℕ} 0 1 = cc in omega arith)
+
+  pub digit-size : scalarSize s ≡ numberSize s
+  unfolding scalarSize
+  digit-size = rw (other-than 0x22 refl, other-than 0x66 refl, other-than 0x6E refl, other-than 0x74 refl)
+
+  pub digit-text : numberText (scalarSaid s) ≡ take (numberSize s) s
+  unfolding scalarSaid
+  digit-text = rw (other-than 0x22 refl, other-than 0x66 refl, other-than 0x6E refl, other-than 0x74 refl)
+
+-- ---- the number at a place
+
+-- a value's number, up to a most
+pub number-up-to : (most deep : ℕ) (s : List ℕ) → most ≤ 65535
+    → numberOf most (valueSaid (suc deep) s) ≡ provided (leb (numberHere s) most) (numberHere s)
+unfolding numberHere
+number-up-to most deep s h = number-said most deep s ∙ ours-up-to most (numberText (scalarSaid s)) h
+
+module _ (text : List ℕ) (place : ℕ) where
+  pub number-none : digit (at text place) ≡ false → 65536 ≡ numberHere (drop place text)
+  unfolding numberHere
+  number-none h = sym (ap (orElse 65536) (no-number 65535 (drop place text) (ap digit (first-behind text place) ∙ h)))
+
+  -- a number there begins with a digit, and is a scalar
+  pub number-begins : numberHere (drop place text) < 65536 → digit (at text place) ≡ true
+  number-begins h = by-test (digit (at text place)) (λ e. e) (λ e. absurd (omega (arith, number-none e)))
+
+  module _ (h : digit (at text place) ≡ true) where
+    first-digit : digit (at (drop place text) 0) ≡ true
+    first-digit = ap digit (first-behind text place) ∙ h
+
+    apart : (b : ℕ) → digit b ≡ false → at text place ≡ b → ⊥
+    apart b n z = let o : true ≡ false = sym h ∙ ap digit z ∙ n in let y : _≡_ {A = ℕ} 0 1 = cc in omega arith
+
+    pub number-value : (deep : ℕ) → valueSize deep (drop place text) ≡ scalarSize (drop place text)
+    number-value deep = scalar-value text place deep (apart 0x7B refl) (apart 0x5B refl)
+
+    module _ (past : ℕ) (p : past ≡ place + valueSize 0 (drop place text)) where
+      sized : past ≡ place + numberSize (drop place text)
+      sized = omega (arith, p, number-value 0, digit-size (drop place text) first-digit)
+
+      pub number-ends : (place ≤ past) × (past ≤ length text)
+      number-ends = (
+        omega (arith, sized),
+        omega (
+          arith,
+          sized,
+          number-within (drop place text),
+          length-drop place text,
+          taken-in-text text place digit _ refl refl h,
+        ),
+      )
+
+      pub number-some : orElse 65536 (ourNumber 65535 (take (past - place) (drop place text)))
+          ≡ numberHere (drop place text)
+      unfolding numberHere
+      number-some =
+          let size : past - place ≡ numberSize (drop place text) = omega (arith, sized) in
+          ap (λ n. orElse 65536 (ourNumber 65535 (take n (drop place text)))) size
+          ∙ ap (λ t. orElse 65536 (ourNumber 65535 t)) (sym (digit-text (drop place text) first-digit))

@@ -1,0 +1,76 @@
+-- `gathered`: what our members give is told by what stands at their places.
+-- Assumes nothing.
+use Prim.Native.Nat.{_≤_}
+use native.Mathlib.Omega.{arith}
+use borrow.Author.Needs.{needs}
+use Rattle.screen.proofs.Given.{in-range, member-bad, member-good, member-missing, tracks-there}
+use Rattle.screen.proofs.reading.gathered.Statement.{statement}
+use Rattle.screen.proofs.reading.gathered.Tie as tie
+
+refused-requires : tie.Need-refused-requires
+refused-requires c κs = search needs
+
+returns : tie.Need-returns
+returns c =
+    member-missing (c .before .before .before .before .before .before .pre) (c .before .if1 .taken)
+    (c .refused .ensures)
+
+number-requires : tie.Need-number-requires
+number-requires c κs = search needs
+
+number-requires-2 : tie.Need-number-requires-2
+number-requires-2 c κs = search needs
+
+tracks-requires : tie.Need-tracks-requires
+tracks-requires c κs =
+    tracks-there (c .before .before .before .before .before .before .before .pre) (c .before .before .if1 .left)
+
+refused-requires-2 : tie.Need-refused-requires-2
+refused-requires-2 c κs = search needs
+
+returns-2 : tie.Need-returns-2
+returns-2 c =
+    let read = c .before .before .before in
+    let placed = read .before .before .before in
+    member-bad (placed .before .before .before .before .before .pre) (placed .if1 .left)
+    (read .before .before .number .ensures) (read .before .number2 .ensures)
+    (read .tracks .ensures) (c .before .if2 .taken) (c .refused2 .ensures)
+
+ranges : (c : tie.After-digits)
+    → (c .before .before .before .before .before .number .result ≤ 65535)
+    × (c .before .before .before .before .number2 .result ≤ 5)
+ranges c =
+    let read = c .before .before .before in
+    let placed = read .before .before .before in
+    in-range (placed .before .before .before .before .before .pre) (placed .if1 .left)
+    (read .before .before .number .ensures) (read .before .number2 .ensures) (read .tracks .ensures)
+    (c .before .if2 .left)
+
+cast-t13 : tie.Need-cast-t13
+cast-t13 c = omega (arith, ranges c)
+
+cast-t14 : tie.Need-cast-t14
+cast-t14 c = omega (arith, ranges c)
+
+returns-3 : tie.Need-returns-3
+returns-3 c =
+    let read = c .before .before .before in
+    let placed = read .before .before .before in
+    member-good (placed .before .before .before .before .before .pre) (placed .if1 .left)
+    (read .before .before .number .ensures) (read .before .number2 .ensures)
+    (read .tracks .ensures) (c .before .if2 .left)
+
+pub gathered-spec : {M : Type 1} → statement M
+gathered-spec =
+    tie.close
+    (tie.spec
+    refused-requires
+    returns
+    number-requires
+    number-requires-2
+    tracks-requires
+    refused-requires-2
+    returns-2
+    cast-t13
+    cast-t14
+    returns-3)

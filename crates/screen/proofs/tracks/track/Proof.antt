@@ -1,0 +1,217 @@
+-- `track`: before each turn the digits so far are gathered, and what is left gives the others.
+-- Assumes nothing.
+use Prim.Native.Nat.{_+_, _-_}
+use mathlib.Core.Path.{sym, _∙_}
+use native.Mathlib.Omega.{arith}
+use borrow.Author.Needs.{needs}
+use Rattle.json.proofs.Places.{in-text}
+use Rattle.rules_json.specs.Reader.{at}
+use Rattle.screen.proofs.Digits.{
+  DigitRead,
+  Digits,
+  all-digits,
+  digit-on,
+  digits-within,
+  fewer-digits,
+  first-digit,
+  no-digits,
+  no-five,
+  other-digit,
+  other-form,
+  too-many-digits,
+}
+use Rattle.screen.proofs.Single.{single-size, single-within}
+use Rattle.screen.proofs.tracks.track.Statement.{statement}
+use Rattle.screen.proofs.tracks.track.Tie as tie
+
+abbrev Inv-loop : tie.InvT-loop
+Inv-loop text at place₀ digits₀ count₀ place digits count = Digits text at place digits count
+
+abbrev μ-loop : tie.MeasureT-loop
+μ-loop text at place₀ digits₀ count₀ place digits count = 5 - count
+
+octet-requires : tie.Need-octet-requires Inv-loop μ-loop
+octet-requires c κs = search needs
+
+no-track-requires : tie.Need-no-track-requires Inv-loop μ-loop
+no-track-requires c κs = search needs
+
+returns : tie.Need-returns Inv-loop μ-loop
+returns c =
+    let given = c .before .before .before .before .args in
+    no-five (given .text .now) (given .at)
+    (other-form (given .text .now) (given .at) (λ e. c .before .if1 .taken (c .before .before .octet .ensures ∙ e)))
+    (c .no-track .ensures)
+
+add-blanks : tie.Need-add-blanks Inv-loop μ-loop
+add-blanks c =
+    let given = c .before .before .before .args in
+    omega (arith, in-text (given .text .now) (given .at) (λ e. omega arith))
+
+blanks-requires : tie.Need-blanks-requires Inv-loop μ-loop
+blanks-requires c κs = search needs
+
+octet-requires-2 : tie.Need-octet-requires-2 Inv-loop μ-loop
+octet-requires-2 c κs = search needs
+
+no-track-requires-2 : tie.Need-no-track-requires-2 Inv-loop μ-loop
+no-track-requires-2 c κs = search needs
+
+returns-2 : tie.Need-returns-2 Inv-loop μ-loop
+returns-2 c =
+    let opened = c .before .before in
+    let given = opened .before .before .before .before .before .args in
+    no-five (given .text .now) (given .at)
+    (no-digits (given .text .now) (given .at)
+    (sym (opened .before .before .before .octet .ensures) ∙ opened .before .before .if1 .left) _ _
+    (opened .before .blanks .ensures) (opened .octet2 .ensures) (c .before .if2 .taken))
+    (c .no-track2 .ensures)
+
+loop-holds : tie.Need-loop-holds Inv-loop μ-loop
+loop-holds c =
+    let opened = c .before in
+    let given = opened .before .before .before .before .before .args in
+    first-digit (given .text .now) (given .at)
+    (sym (opened .before .before .before .octet .ensures) ∙ opened .before .before .if1 .left) _ _
+    (opened .before .blanks .ensures) (opened .octet2 .ensures) (c .if2 .left)
+    (opened .before .before .before .before .before .pre)
+
+number-requires : tie.Need-number-requires Inv-loop μ-loop
+number-requires c κs = search needs
+
+no-track-requires-3 : tie.Need-no-track-requires-3 Inv-loop μ-loop
+no-track-requires-3 c κs = search needs
+
+returns-3 : tie.Need-returns-3 Inv-loop μ-loop
+returns-3 c =
+    let turn = c .before .before .before .before in
+    let given = turn .before .before .before .before .before .before .before .args in
+    no-five (given .text .now) (given .at)
+    (other-digit (turn .loop .inv) _ (c .before .before .number .ensures) (c .before .if3 .taken))
+    (c .no-track3 .ensures)
+
+cast-digits : tie.Need-cast-digits Inv-loop μ-loop
+cast-digits c = search needs
+
+array-write-digits : tie.Need-array-write-digits Inv-loop μ-loop
+array-write-digits c = search needs
+
+add-count : tie.Need-add-count Inv-loop μ-loop
+add-count c = search needs
+
+add-past : tie.Need-add-past Inv-loop μ-loop
+add-past c =
+    let given = c .before .before .before .before .before .before .before .before .before .before in
+    omega (
+      arith,
+      given .good,
+      single-within (given .args .text .now) (c .before .before .before .loop .place)
+          (omega (arith, c .before .number .ensures, c .if3 .left)),
+    )
+
+blanks-requires-2 : tie.Need-blanks-requires-2 Inv-loop μ-loop
+blanks-requires-2 c κs = search needs
+
+octet-requires-3 : tie.Need-octet-requires-3 Inv-loop μ-loop
+octet-requires-3 c κs = search needs
+
+module _ (c : tie.After-octet3 Inv-loop μ-loop) where
+  abbrev turn : tie.In-loop Inv-loop μ-loop
+  turn = c .before .before .before .before
+
+  abbrev start : tie.Start Inv-loop μ-loop
+  start = turn .before .before .before .before .before .before .before .before
+
+  read : DigitRead (start .args .text .now) (start .args .at) (turn .before .loop .place) (turn .before .loop .digits)
+      (turn .before .loop .count) (c .before .before .before .number .result) (c .before .blanks2 .result)
+      (c .octet3 .result)
+  read =
+      record {
+        so-far = turn .before .loop .inv;
+        number = c .before .before .before .number .ensures;
+        small = c .before .before .if3 .left;
+        less = turn .loop-test .taken;
+        past = turn .before .loop .place + 1;
+        size = single-size (start .args .text .now) (turn .before .loop .place) (omega arith);
+        skips = c .before .blanks2 .ensures;
+        octet-is = c .octet3 .ensures;
+      }
+
+no-track-requires-4 : tie.Need-no-track-requires-4 Inv-loop μ-loop
+no-track-requires-4 c κs = search needs
+
+returns-4 : tie.Need-returns-4 Inv-loop μ-loop
+returns-4 c =
+    let last = c .before .before .before in
+    no-five (start last .args .text .now) (start last .args .at)
+    (fewer-digits (read last) (c .before .before .if4 .taken) (c .before .if5 .taken)) (c .no-track4 .ensures)
+
+add-t17 : tie.Need-add-t17 Inv-loop μ-loop
+add-t17 c = omega (arith, digits-within (read (c .before .before)) (c .before .if4 .taken))
+
+returns-5 : tie.Need-returns-5 Inv-loop μ-loop
+returns-5 c = all-digits (read (c .before .before)) (c .before .if4 .taken) (c .if5 .left)
+
+add-blanks-2 : tie.Need-add-blanks-2 Inv-loop μ-loop
+add-blanks-2 c =
+    let given = start (c .before) in
+    omega (
+      arith,
+      given .good,
+      in-text (given .args .text .now) (c .before .before .blanks2 .result)
+          (λ e. omega (arith, c .before .octet3 .ensures, c .if4 .left)),
+    )
+
+blanks-requires-3 : tie.Need-blanks-requires-3 Inv-loop μ-loop
+blanks-requires-3 c κs = search needs
+
+loop-less : tie.Need-loop-less Inv-loop μ-loop
+loop-less c = search needs
+
+loop-again : tie.Need-loop-again Inv-loop μ-loop
+loop-again c = digit-on (read (c .before .before)) (c .before .if4 .left) (c .blanks3 .ensures)
+
+no-track-requires-5 : tie.Need-no-track-requires-5 Inv-loop μ-loop
+no-track-requires-5 c κs = search needs
+
+returns-6 : tie.Need-returns-6 Inv-loop μ-loop
+returns-6 c =
+    let over = c .before .before in
+    let given = over .before .before .before .before .before .before .before .args in
+    no-five (given .text .now) (given .at) (too-many-digits (over .loop .inv) (c .before .loop-test .left))
+    (c .no-track5 .ensures)
+
+pub track-spec : {M : Type 1} → statement M
+track-spec =
+    tie.close
+    (tie.spec
+    Inv-loop
+    μ-loop
+    octet-requires
+    no-track-requires
+    returns
+    add-blanks
+    blanks-requires
+    octet-requires-2
+    no-track-requires-2
+    returns-2
+    loop-holds
+    number-requires
+    no-track-requires-3
+    returns-3
+    cast-digits
+    array-write-digits
+    add-count
+    add-past
+    blanks-requires-2
+    octet-requires-3
+    no-track-requires-4
+    returns-4
+    add-t17
+    returns-5
+    add-blanks-2
+    blanks-requires-3
+    loop-less
+    loop-again
+    no-track-requires-5
+    returns-6)
