@@ -5,8 +5,14 @@ pub mod BrowseBack
 pub mod BrowseRows
 pub mod Computed
 pub mod Exactly
+pub mod FiveDigits
 pub mod Idle
+pub mod IdleReaders
+pub mod MessageTexts
+pub mod NumberForms
+pub mod NumberTexts
 pub mod Once
+pub mod PlainTexts
 pub mod Quiet
 pub mod QuietRows
 pub mod Reached
@@ -15,5 +21,12 @@ pub mod Refusal
 pub mod RegisterBytes
 pub mod RegisterLaws
 pub mod ReplayLaws
+pub mod Screens
+pub mod ScreensBack
+pub mod ScreensExactly
+pub mod ScreensRead
+pub mod ScreensStated
 pub mod SheetBack
 pub mod Stated
+pub mod StationMessage
+pub mod ValueForms

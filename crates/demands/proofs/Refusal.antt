@@ -13,6 +13,7 @@ use Rattle.chains.proofs.Chains.{group-so, test-so}
 use Rattle.demands.proofs.BrowseBack.{refused-stays}
 use Rattle.demands.proofs.Exactly.{in-its-case}
 use Rattle.demands.proofs.RegisterLaws.{append-applies, append-elsewhere, append-enters-refused, append-refused, start-refused}
+use Rattle.demands.proofs.Screens.{writes}
 use Rattle.demands.proofs.Stated.{append-within, stated-report}
 use Rattle.demands.specs.Refusal.{AppendLeaves, RefusalLeaves}
 use Rattle.demands.specs.Stated.{ofTaking}
@@ -86,4 +87,11 @@ not-written text b = go (fits text b) text
 pub refusal-leaves : RefusalLeaves
 unfolding taken stepOf readingOf
 refusal-leaves =
-    record { report = after-refused; starting = start-refused; appending = append-leaves; printing = not-written; moving = refused-stays }
+    record {
+      report = after-refused;
+      starting = start-refused;
+      appending = append-leaves;
+      printing = not-written;
+      writing = λ m b h. writes .refused m b h .1;
+      moving = refused-stays;
+    }

@@ -4,12 +4,13 @@
 use Prim.Native.Nat.{ℕ, zero, suc, _+_, _*_, _-_, _%_}
 use native.Mathlib.Decide.{ℕ-discrete}
 use mathlib.Core.Path.{_≡_, refl, sym, ap, subst, _∙_}
-use mathlib.Core.Bool.{Bool, true, false, false≢true, true≢false, cond, not, _&&_, _||_}
+use mathlib.Core.Bool.{Bool, true, false≢true, true≢false, cond, not, _&&_, _||_}
 use mathlib.Core.List.{List, [], _∷_}
 use borrow.Author.Tests.{not-false}
 use lib.ListN.{length}
 use Rattle.chains.proofs.Chains.{both-done, neither, passed, same-order}
 use Rattle.demands.proofs.Exactly.{Row, Tests, at-most, below, equal, exactly, group, in-words, is, isnt, unequal, _and_, _before_, _on_, _or_}
+use Rattle.demands.proofs.ScreensStated.{stated-receiving, stated-writing}
 use Rattle.demands.specs.Exactly.{GivenExactly}
 use Rattle.demands.specs.Stated.{AsStated, SomeWrong, ofAppending, ofHandingBack, ofLimits, ofReading, ofStarting, ofStepping, ofTaking}
 use Rattle.register.proofs.FirstWrong.{names-first, none-wrong}
@@ -175,4 +176,6 @@ as-stated =
       reading = stated-reading;
       handingBack = stated-handing-back;
       stepping = stated-stepping;
+      receiving = stated-receiving;
+      writing = stated-writing;
     }

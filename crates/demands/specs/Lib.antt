@@ -3,8 +3,10 @@ pub mod BrowseBack
 pub mod BrowseRows
 pub mod Exactly
 pub mod Idle
+pub mod IdleReaders
 pub mod Quiet
 pub mod QuietRows
 pub mod ReadBack
 pub mod Refusal
+pub mod Screens
 pub mod Stated

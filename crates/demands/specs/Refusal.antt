@@ -1,6 +1,6 @@
 -- Demand 1: "A refusal leaves the station and every buffer as they were, except that a report refused by 1 to 7 still gets its row." A refusal is any
 -- number but 0 that is returned; of a printed text the length is returned, and 0 where it does not fit. A station is handed in with a report, taken or
--- appended; a buffer is lent in starting, appending and printing; a browser is moved. Making, reading and stepping are handed no station: refused, they
+-- appended; a buffer is lent in starting, appending, printing and writing a message; a browser is moved. Making, reading and stepping are handed no station: refused, they
 -- return the least one. (Exception: what is printed of a register that cannot be read is the text that was asked for, and is written into the buffer lent
 -- for it.)
 use Prim.Native.Nat.{ℕ, _+_, _≤_, _<_}
@@ -14,6 +14,8 @@ use Rattle.rules.specs.Aspect.{aspectOf}
 use Rattle.rules.specs.Layout.{entryAt, entryOf, entryStart}
 use Rattle.rules.specs.Printer.{lengthWritten, written}
 use Rattle.rules.specs.Register.{appended, appendedBytes, startAnswer, started, stepOf}
+use Rattle.rules.specs.Screen.{afterWriting, writtenOf}
+use Rattle.rules.specs.declared.Message.{Message}
 use Rattle.rules.specs.declared.Report.{Report}
 use Rattle.rules.specs.declared.Settings.{Settings}
 use Rattle.rules.specs.declared.Station.{Station}
@@ -41,5 +43,7 @@ pub record RefusalLeaves : Type 0 where
   pub appending : (b : List ℕ) (k : ℕ) (s : Station) (r : Report) → AppendLeaves b k s r (appended b k s r) (appendedBytes b k s r)
   -- A text that does not fit is not written. (Nor is an empty one, whose length is 0 too.)
   pub printing : (text b : List ℕ) → lengthWritten text b ≡ 0 → written text b ≡ b
+  -- A message that is refused is not written.
+  pub writing : (m : Message) (b : List ℕ) → (writtenOf m (length b) .answer ≡ 0 → ⊥) → afterWriting m b ≡ b
   -- A refused move of the browser keeps its place.
   pub moving : (w : Browser) (row : ℕ) → (stepOf (bytesOf w) row .answer ≡ 0 → ⊥) → movedTo w row ≡ w

@@ -1,6 +1,6 @@
 -- Document 01, "The numbers it answers", and demand 1: "Any report, setting or register is taken or refused by a number, .. Each number is given in its
 -- stated case only." For each thing that is answered: the numbers that it can be answered with, each with its case in the table's words, in the order
--- of "Order". At the end, that each answer is given so.
+-- of "Order"; and so for the texts and messages of document 02, request 1. At the end, that each answer is given so.
 use Prim.Native.Nat.{ℕ, _+_, _*_, _-_, _%_, _≤_, _<_}
 use mathlib.Core.Logic.{_⊎_}
 use mathlib.Core.Path.{_≡_}
@@ -8,18 +8,22 @@ use mathlib.Core.Bool.{Bool, true, false, _&&_}
 use mathlib.Core.List.{List}
 use lib.ListN.{length}
 use Rattle.demands.specs.Exactly.{Cases, GivenExactly, otherwise, _when_then_}
+use Rattle.demands.specs.Screens.{Lacking, Says, Taken}
 use Rattle.rules.specs.Answers.{already, answerOf, namesHead, namesIsland, taken, wrongFields}
 use Rattle.rules.specs.Kinds.{kindOf}
 use Rattle.rules.specs.Layout.{entries, entryAt, hasMark, settingsIn, versionIn}
 use Rattle.rules.specs.Register.{after, appended, asReplayed, entryAnswer, readOf, sameSettings, startAnswer, stepOf}
 use Rattle.rules.specs.Reports.{namedIsland}
+use Rattle.rules.specs.Screen.{membersOf, messageFits, received, written, writtenOf}
 use Rattle.rules.specs.Siting.{advanceSited, messageGood, speedGood, tracksGood, warningSited}
 use Rattle.rules.specs.Station.{made, obstructed, settingsAnswer, withinLimits}
 use Rattle.rules.specs.Words.{within}
+use Rattle.rules.specs.declared.Message.{Message}
 use Rattle.rules.specs.declared.Report.{Report}
 use Rattle.rules.specs.declared.Seconds.{Seconds}
 use Rattle.rules.specs.declared.Settings.{Settings}
 use Rattle.rules.specs.declared.Station.{Station}
+use Rattle.rules_json.specs.Tree.{Tree}
 
 -- ---- a report
 
@@ -128,6 +132,22 @@ ofStepping b k =
     13 when SomeWrong b k then
     otherwise 0)
 
+-- ---- document 02, request 1: a text that is read, and a message that is written into a buffer of so many bytes
+
+-- "15 not RFC 8259 text, too long or too deep; 16 one of our members missing, of another form or outside its range; in that order"
+abbrev pub ofReceiving : List ℕ → Cases
+ofReceiving s =
+    15 when (Taken s → ⊥) then
+    16 when ((x : Tree 8) × Says x s × Lacking (membersOf x)) then
+    otherwise 0
+
+-- "it answers 16, then 12 a buffer too short"
+abbrev pub ofWriting : Message → ℕ → Cases
+ofWriting m room =
+    16 when messageFits m ≡ false then
+    12 when room < length (written m) then
+    otherwise 0
+
 -- ---- "The numbers it answers": each is "given exactly when" its case holds, and none that "Order" tests before it
 
 pub record AsStated : Type 0 where
@@ -151,3 +171,7 @@ pub record AsStated : Type 0 where
   pub handingBack : (b : List ℕ) (k : ℕ) → GivenExactly (ofHandingBack b k) (entryAnswer b k)
   -- Row k of a register, stepped to; a move of the browser answers as stepping does.
   pub stepping : (b : List ℕ) (k : ℕ) → GivenExactly (ofStepping b k) (stepOf b k .answer)
+  -- A text that the desk sends.
+  pub receiving : (s : List ℕ) → GivenExactly (ofReceiving s) (received s .answer)
+  -- A message that is written into the bytes lent.
+  pub writing : (m : Message) (b : List ℕ) → GivenExactly (ofWriting m (length b)) (writtenOf m (length b) .answer)
