@@ -4,10 +4,12 @@
 #[path = "../tests/paper/mod.rs"]
 #[allow(dead_code, unused_imports)] // The benches call a part of it.
 mod paper;
+#[path = "ratios/texts.rs"]
+mod texts;
 #[path = "ratios/traffic.rs"]
 mod traffic;
 
-use degvuurel::{Register, Settings, Station};
+use degvuurel::{Message, Register, Settings, Station};
 use std::hint::black_box;
 use std::time::{Duration, Instant};
 use traffic::{both, paper_report, paper_settings, Busy};
@@ -24,6 +26,7 @@ fn main() {
     ticks();
     reports();
     registers();
+    messages();
 }
 
 /// One line: what each side takes for one piece of work, of which a call does so many.
@@ -149,6 +152,26 @@ fn registers() {
             8190,
             || degvuurel::print(&bytes, &mut text).len() as u64,
             || paper::print(black_box(&bytes)).len() as u64,
+        );
+    }
+}
+
+/// What is compared of a message here. The tests compare all of it.
+fn message_sum(station: u16, aspect: u8, tracks: u8) -> u64 {
+    u64::from(station) * 65_536 + u64::from(aspect) * 256 + u64::from(tracks)
+}
+
+fn messages() {
+    for (name, text) in texts::all() {
+        let text = black_box(text);
+        line(
+            &format!("reading a message, {name}"),
+            1,
+            || Message::read(&text).map_or(0, |read| message_sum(read.station, read.aspect, read.tracks)),
+            || {
+                let (_, read) = paper::screen::read(&text);
+                message_sum(read.station, read.aspect, read.tracks)
+            },
         );
     }
 }

@@ -16,7 +16,7 @@
 #include <stddef.h>
 #include <stdint.h>
 
-/* The answers: document 01, "The numbers it answers". */
+/* The answers: document 01, "The numbers it answers"; 15 and 16: document 02, request 1. */
 enum {
     DEGVUUREL_DONE = 0,
     DEGVUUREL_NO_SUCH_KIND = 1,    /* kind is not 1 to 7 */
@@ -32,7 +32,9 @@ enum {
     DEGVUUREL_CUT_ENTRY = 11,      /* length less 16 is no multiple of 8 */
     DEGVUUREL_NO_ROOM = 12,        /* no room, or more than 8,190 entries */
     DEGVUUREL_NOT_REPLAYED = 13,   /* an entry's answer or aspect is not what the replay gives */
-    DEGVUUREL_NO_SUCH_ROW = 14     /* a row above the count, or row 0 handed back */
+    DEGVUUREL_NO_SUCH_ROW = 14,    /* a row above the count, or row 0 handed back */
+    DEGVUUREL_NOT_JSON = 15,       /* not RFC 8259 text, too long or too deep */
+    DEGVUUREL_BAD_MEMBER = 16      /* a member of a message missing, of another form or outside its range */
 };
 
 /* The aspects: document 01, "From islands to aspect". */
@@ -62,6 +64,10 @@ enum {
 #define DEGVUUREL_MOST 8190
 #define DEGVUUREL_MOST_BYTES (DEGVUUREL_HEADER + DEGVUUREL_ENTRY * DEGVUUREL_MOST)
 #define DEGVUUREL_SHEET 188397
+
+/* The bytes of the longest message that is written, and of the longest that is read. */
+#define DEGVUUREL_MESSAGE 87
+#define DEGVUUREL_MESSAGE_READ 4096
 
 #ifdef __cplusplus
 extern "C" {
@@ -177,6 +183,28 @@ struct degvuurel_row_fields {
     uint8_t answer;
 };
 
+/* What the information desk is told of a station: its number, its aspect, its number of tracks, and five digits for each track in
+ * island order, 0 occupied and 1 free. The digits of tracks that are not there are 0. */
+struct degvuurel_message {
+    uint16_t station;
+    uint8_t aspect;
+    uint8_t tracks;
+    uint8_t digits[20];
+};
+
+/* The answer to a text, 0, 15 or 16, and its message. Look at the answer first: refused, the message is zeros and no tracks, and
+ * its aspect 0 means nothing. */
+struct degvuurel_received {
+    uint8_t answer;
+    struct degvuurel_message message;
+};
+
+/* The answer to a message, 0, 16 or 12, and the length of the text written, which is 0 where the answer is not. */
+struct degvuurel_written {
+    uint8_t answer;
+    size_t length;
+};
+
 /* The archive has these sizes. A compiler that is told to pack structs, or to count in 32 bits, would hand over other bytes: it
  * stops here, at an array of less than no bytes. */
 #define DEGVUUREL_SIZE(name, bytes) typedef char degvuurel_size_of_##name[sizeof(struct degvuurel_##name) == (bytes) ? 1 : -1]
@@ -196,6 +224,9 @@ DEGVUUREL_SIZE(sited, 4);
 DEGVUUREL_SIZE(reading, 168);
 DEGVUUREL_SIZE(entry_place, 24);
 DEGVUUREL_SIZE(row_fields, 24);
+DEGVUUREL_SIZE(message, 24);
+DEGVUUREL_SIZE(received, 26);
+DEGVUUREL_SIZE(written, 16);
 #undef DEGVUUREL_SIZE
 
 /* A fresh station. Where the settings are refused with 8, one of the least settings. */
@@ -281,6 +312,19 @@ size_t degvuurel_row_line(uint8_t *out, size_t length, struct degvuurel_row_fiel
 /* Writes the one line of a register that cannot be read, as degvuurel_title_line does. The entry is named where the answer is
  * 13. */
 size_t degvuurel_refusal_line(uint8_t *out, size_t length, uint8_t answer, uint64_t entry);
+
+/* What the information desk is told of a station with this number. Of one whose settings are outside their limits: aspect 5, and
+ * four tracks of 0. */
+struct degvuurel_message degvuurel_message_of(uint16_t number, struct degvuurel_station station);
+
+/* Writes a message as one JSON object at the start of the bytes, gives its length, and touches no byte past it; DEGVUUREL_MESSAGE bytes are always
+ * enough. 16 where the aspect is above 5, the tracks are not 1 to 4, a digit is above 1, or one of a track that is not there is not
+ * 0; then 12 where the text does not fit. Refused, nothing is written. The text is not ended by a 0. */
+struct degvuurel_written degvuurel_write_message(struct degvuurel_message message, uint8_t *bytes, size_t length);
+
+/* Reads a message from any RFC 8259 text in UTF-8 of at most DEGVUUREL_MESSAGE_READ bytes, with lists and objects at most 8 deep: the
+ * first member of each of our names in the outermost object counts, names compared after escapes, and other members are skipped. 15 or 16 where it is refused. */
+struct degvuurel_received degvuurel_read_message(const uint8_t *text, size_t length);
 
 #ifdef __cplusplus
 }

@@ -3,7 +3,7 @@
 use std::error::Error;
 use std::fmt;
 
-/// What a report, a setting or a register is answered with: document 01, "The numbers it answers".
+/// What a report, a setting or a register is answered with: document 01, "The numbers it answers", and document 02.
 ///
 /// ```
 /// use degvuurel::Answer;
@@ -45,11 +45,15 @@ pub enum Answer {
     NotReplayed = 13,
     /// 14: a row above the count, or row 0 handed back.
     NoSuchRow = 14,
+    /// 15: not RFC 8259 text, too long or too deep.
+    NotJson = 15,
+    /// 16: a member of a message missing, of another form or outside its range.
+    BadMember = 16,
 }
 
 impl Answer {
     /// Every answer, in the order of its number.
-    pub const ALL: [Answer; 15] = [
+    pub const ALL: [Answer; 17] = [
         Answer::Done,
         Answer::NoSuchKind,
         Answer::BadField,
@@ -65,6 +69,8 @@ impl Answer {
         Answer::NoRoom,
         Answer::NotReplayed,
         Answer::NoSuchRow,
+        Answer::NotJson,
+        Answer::BadMember,
     ];
 
     /// The answer with this number, if there is one.
@@ -73,15 +79,15 @@ impl Answer {
         Answer::ALL.get(usize::from(number)).copied()
     }
 
-    /// Document 01's number.
+    /// The documents' number.
     #[must_use]
     pub fn number(self) -> u8 {
         self as u8
     }
 
-    /// The answer that the library gave. It is proved to give none above 14.
+    /// The answer that the library gave. It is proved to give none above 16.
     pub(crate) fn given(number: u8) -> Answer {
-        Answer::of(number).expect("the library answers 0 to 14")
+        Answer::of(number).expect("the library answers 0 to 16")
     }
 
     /// Nothing where it is done, else the refusal.
@@ -113,6 +119,8 @@ impl fmt::Display for Answer {
             Answer::NoRoom => "no room, or too many entries",
             Answer::NotReplayed => "the entry's answer or aspect is not what the replay gives",
             Answer::NoSuchRow => "no such row",
+            Answer::NotJson => "not RFC 8259 text, too long or too deep",
+            Answer::BadMember => "a member of the message is missing, of another form or outside its range",
         })
     }
 }
@@ -144,7 +152,7 @@ impl Refusal {
         self.answer
     }
 
-    /// Document 01's number, 1 to 14.
+    /// The documents' number, 1 to 16.
     #[must_use]
     pub fn number(self) -> u8 {
         self.answer.number()

@@ -5,6 +5,7 @@
 //! which is not read or written by anyone else meanwhile, and that a bool is 0 or 1. The safe functions of this package take slices
 //! and bools of Rust, for which both hold.
 
+use crate::message::Message;
 use crate::report::Report;
 use crate::sheet::{RowFields, SheetText};
 use crate::siting::{Metres, Seconds};
@@ -66,6 +67,20 @@ pub struct Sited {
     pub distance: Metres,
 }
 
+/// The answer to a text, and its message: zeros where it is refused.
+#[repr(C)]
+pub struct Received {
+    pub answer: u8,
+    pub message: Message,
+}
+
+/// The answer to a message, and the length of its text.
+#[repr(C)]
+pub struct Written {
+    pub answer: u8,
+    pub length: usize,
+}
+
 extern "C" {
     pub fn degvuurel_make(settings: Settings) -> Made;
     pub fn degvuurel_take(station: Station, report: Report) -> Taken;
@@ -96,4 +111,8 @@ extern "C" {
     pub fn degvuurel_title_line(out: *mut u8, length: usize) -> usize;
     pub fn degvuurel_row_line(out: *mut u8, length: usize, fields: RowFields) -> usize;
     pub fn degvuurel_refusal_line(out: *mut u8, length: usize, answer: u8, entry: u64) -> usize;
+
+    pub fn degvuurel_message_of(number: u16, station: Station) -> Message;
+    pub fn degvuurel_write_message(message: Message, buffer: *mut u8, length: usize) -> Written;
+    pub fn degvuurel_read_message(text: *const u8, length: usize) -> Received;
 }

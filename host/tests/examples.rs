@@ -1,4 +1,4 @@
-//! The examples that print a sheet, step back and print distances.
+//! The examples that print a sheet, step back, print distances, and write and read messages.
 
 #[path = "examples/run.rs"]
 mod run;
@@ -119,4 +119,19 @@ fn distances_are_not_printed_for_words() {
         assert_eq!((ran.status, ran.stdout.len()), (2, 0));
         assert!(ran.stderr.contains("\nusage: siting "));
     }
+}
+
+#[test]
+fn messages_are_written_and_read() {
+    // The worked sheet ends with islands 4 and 3 of track 0 occupied, the first held and the second fresh.
+    let text = "{\"station\":7,\"aspect\":2,\"tracks\":[[1,1,1,0,0],[1,1,1,1,1]]}\n";
+    assert_eq!(written("message", &["7", "../examples/worked_sheet.cea"]), text);
+    let read = run("message", &[], text.as_bytes());
+    assert_eq!((read.status, read.stdout.as_slice()), (0, &b"station 7 aspect 2 tracks 11100 11111\n"[..]));
+    let refused = run("message", &[], b"{\"station\":7");
+    assert_eq!((refused.status, refused.stderr.as_str()), (1, "refused 15: not RFC 8259 text, too long or too deep\n"));
+    for words in [&["65536", "../examples/worked_sheet.cea"], &["7", "no_such_file.cea"]] {
+        assert_eq!(run("message", words, b"").status, 1, "{words:?}");
+    }
+    assert_eq!(run("message", &["7"], b"").status, 2);
 }

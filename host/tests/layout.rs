@@ -9,6 +9,9 @@ mod sources;
 #[allow(dead_code)]
 #[path = "../src/declared.rs"]
 mod declared;
+mod message {
+    pub use degvuurel::Message;
+}
 mod report {
     pub use degvuurel::Report;
 }
@@ -23,8 +26,8 @@ mod station {
 }
 
 use compiled::{compiled, package, written_by, LANGUAGES};
-use declared::{Entry, Heads, Made, Presence, Reading, Sited, Taken, Zones};
-use degvuurel::{Island, Metres, Report, RowFields, Seconds, Settings, Station, Track};
+use declared::{Entry, Heads, Made, Presence, Reading, Received, Sited, Taken, Written, Zones};
+use degvuurel::{Island, Message, Metres, Report, RowFields, Seconds, Settings, Station, Track};
 use std::fmt::Write;
 use std::fs;
 use std::mem::{offset_of, size_of};
@@ -66,6 +69,9 @@ fn layout_in_rust() -> String {
     layout!(lines, "reading", Reading { answer, entry, count, station });
     layout!(lines, "entry_place", Entry { answer, at, length });
     layout!(lines, "row_fields", RowFields { entry, zones, outputs, answer });
+    layout!(lines, "message", Message { station, aspect, tracks, digits });
+    layout!(lines, "received", Received { answer, message });
+    layout!(lines, "written", Written { answer, length });
     lines
 }
 
@@ -91,6 +97,7 @@ fn rattle() -> String {
     texts_of(&[
         "../crates/rules/src/lib.rt",
         "../crates/export/src/registers.rt",
+        "../crates/export/src/screens.rt",
         "../crates/export/src/sheets.rt",
         "../crates/export/src/sitings.rt",
         "../crates/export/src/stations.rt",
@@ -100,16 +107,16 @@ fn rattle() -> String {
 #[test]
 fn the_structs_are_those_of_the_rattle_sources() {
     let structs = sources::structs_in_source(&rattle());
-    assert_eq!(structs.len(), 16);
+    assert_eq!(structs.len(), 19);
     assert_eq!(sources::structs_in_c(&text_of("include/degvuurel.h")), structs, "in the header");
-    let files = ["src/station.rs", "src/report.rs", "src/siting.rs", "src/sheet.rs", "src/declared.rs"];
+    let files = ["src/station.rs", "src/report.rs", "src/siting.rs", "src/sheet.rs", "src/message.rs", "src/declared.rs"];
     assert_eq!(sources::structs_in_source(&texts_of(&files)), structs, "in Rust");
 }
 
 #[test]
 fn the_functions_are_those_of_the_rattle_sources() {
     let functions = sources::functions_in_source(&rattle());
-    assert_eq!(functions.len(), 26);
+    assert_eq!(functions.len(), 29);
     assert_eq!(sources::functions_in_c(&text_of("include/degvuurel.h")), functions, "in the header");
     // Rust leaves out what it can do without.
     for (name, types) in sources::functions_in_source(&text_of("src/declared.rs")) {
@@ -126,8 +133,8 @@ fn name_in_header(name: &str) -> &str {
 fn the_numbers_are_those_of_the_rattle_sources() {
     let header = text_of("include/degvuurel.h");
     let numbers = sources::constants_in_source(&text_of("../crates/rules/src/lib.rt"));
-    // Fifteen answers, seven kinds, six aspects and three sizes.
-    assert_eq!(numbers.len(), 31);
+    // Seventeen answers, seven kinds, six aspects and three sizes.
+    assert_eq!(numbers.len(), 33);
     for (name, number) in numbers {
         let name = name_in_header(&name);
         let forms =
@@ -136,4 +143,7 @@ fn the_numbers_are_those_of_the_rattle_sources() {
     }
     assert!(text_of("../crates/sheet/src/lib.rt").contains(&format!("pub type SheetText = [u8; {}];", degvuurel::SHEET)));
     assert!(header.contains(&format!("DEGVUUREL_SHEET {}\n", degvuurel::SHEET)));
+    assert!(header.contains(&format!("DEGVUUREL_MESSAGE {}\n", degvuurel::MESSAGE)));
+    assert!(header.contains(&format!("DEGVUUREL_MESSAGE_READ {}\n", degvuurel::MESSAGE_READ)));
+    assert!(text_of("../crates/screen/src/reading.rt").contains(&format!("const LONGEST: usize = {};", degvuurel::MESSAGE_READ)));
 }

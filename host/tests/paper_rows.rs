@@ -1,5 +1,5 @@
-//! The independent implementation held against the rows of document 01, its numbers and their order, and that nothing panics: who
-//! judges the library is judged here first.
+//! The independent implementation held against the rows of documents 01 and 02, their numbers and their order, and that nothing
+//! panics: who judges the library is judged here first.
 
 mod paper;
 
@@ -11,6 +11,8 @@ mod easy;
 mod numbers;
 #[path = "paper_rows/registers.rs"]
 mod registers;
+#[path = "paper_rows/screen.rs"]
+mod screen_rows;
 #[path = "paper_rows/total.rs"]
 mod total;
 
@@ -127,4 +129,25 @@ fn worked_sheet() {
     assert_eq!(print(&[0; 65_536]), b"refused 9\n");
     bytes[16 + 8 + 7] ^= 1;
     assert_eq!(print(&bytes), b"refused 13 at 2\n");
+}
+
+#[test]
+fn texts_of_the_screens() {
+    screen_rows::hold_reading(screen::read);
+    screen_rows::hold_writing(screen::write_into);
+}
+
+#[test]
+fn what_the_screens_are_sent() {
+    let mut station = normalised(PLAIN);
+    after(&mut station, &[(1, 0, 4, 0), (1, 1, 0, 0)]);
+    station.tracks[2][0].occupied = true;
+    let mut digits = [0; 20];
+    digits[..10].copy_from_slice(&[1, 1, 1, 1, 0, 0, 1, 1, 1, 1]);
+    assert_eq!(screen::Message::of(65535, &station), screen::Message { station: 65535, aspect: 3, tracks: 2, digits });
+    for tracks in [0, 5, 255] {
+        station.settings.tracks = tracks;
+        let sent = screen::Message { station: 7, aspect: 5, tracks: 4, digits: [0; 20] };
+        assert_eq!(screen::Message::of(7, &station), sent);
+    }
 }

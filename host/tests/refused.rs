@@ -1,10 +1,13 @@
-//! What a refused making, reading and stepping return beside their numbers, which the wrapper does not hand on: a fresh station of
-//! one track, with T1 to T4 equal to 1 and T5 to 2, and count 0.
+//! What a refusal returns beside its number, which the wrapper does not hand on. Of making, reading and stepping: a fresh station of
+//! one track, with T1 to T4 equal to 1 and T5 to 2, and count 0. Of a text: zeros and no tracks. Of writing a message: length 0.
 
 // The declarations are the package's own file, which names its structs by these paths.
 #[allow(dead_code)]
 #[path = "../src/declared.rs"]
 mod declared;
+mod message {
+    pub use degvuurel::Message;
+}
 mod report {
     pub use degvuurel::Report;
 }
@@ -18,7 +21,7 @@ mod station {
     pub use degvuurel::{Settings, Station};
 }
 
-use degvuurel::{Settings, Station};
+use degvuurel::{Message, Settings, Station};
 use std::fs;
 use std::path::Path;
 
@@ -44,6 +47,33 @@ fn a_refused_making() {
         // SAFETY: any settings are taken.
         let made = unsafe { declared::degvuurel_make(settings) };
         assert_eq!((made.answer, made.station), (8, least()), "{settings:?}");
+    }
+}
+
+#[test]
+fn a_refused_message() {
+    let nothing = Message { station: 0, aspect: 0, tracks: 0, digits: [0; 20] };
+    let texts = [
+        ("", 15),
+        ("[", 15),
+        (r#"{"station":7,"aspect":2,"tracks":[[1,1,1,1,1]]}x"#, 15),
+        ("{}", 16),
+        (r#"{"station":7,"aspect":2,"tracks":[[1,1,1,1,2]]}"#, 16),
+        (r#"{"station":65536,"aspect":2,"tracks":[[1,1,1,1,1]]}"#, 16),
+        (r#"{"station":7,"aspect":2,"tracks":[[1,1,1,1,1]],"tracks":"x","aspect":2,"station":7,"station":}"#, 15),
+    ];
+    for (text, answer) in texts {
+        // SAFETY: the pointer and the length are one slice.
+        let received = unsafe { declared::degvuurel_read_message(text.as_ptr(), text.len()) };
+        assert_eq!((received.answer, received.message), (answer, nothing), "{text}");
+    }
+    let whole = Message { tracks: 1, digits: [0; 20], ..nothing };
+    for (message, room, answer) in [(whole, 46, 12), (whole, 0, 12), (nothing, 100, 16), (Message { aspect: 6, ..whole }, 0, 16)] {
+        let mut bytes = vec![0xEE; room];
+        // SAFETY: the pointer and the length are one slice, which nobody else has.
+        let written = unsafe { declared::degvuurel_write_message(message, bytes.as_mut_ptr(), bytes.len()) };
+        assert_eq!((written.answer, written.length), (answer, 0), "{message:?} in {room} bytes");
+        assert!(bytes.iter().all(|&byte| byte == 0xEE), "{message:?} in {room} bytes");
     }
 }
 

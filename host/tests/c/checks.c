@@ -1,4 +1,4 @@
-/* Calls every function of the library and compares what it gives with document 01. It is C99, and C++11 too. */
+/* Calls every function of the library and compares what it gives with documents 01 and 02. It is C99, and C++11 too. */
 #include "checks.h"
 
 #include <stdio.h>
@@ -93,5 +93,6 @@ int main(void) {
     check_stations();
     check_structs();
     check_registers();
+    check_screens();
     return differences == 0 ? 0 : 1;
 }

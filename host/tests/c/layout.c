@@ -79,10 +79,25 @@ static void of_a_register(void) {
     FIELD(row_fields, answer);
 }
 
+static void of_a_message(void) {
+    WHOLE(message);
+    FIELD(message, station);
+    FIELD(message, aspect);
+    FIELD(message, tracks);
+    FIELD(message, digits);
+    WHOLE(received);
+    FIELD(received, answer);
+    FIELD(received, message);
+    WHOLE(written);
+    FIELD(written, answer);
+    FIELD(written, length);
+}
+
 int main(void) {
     of_a_station();
     of_a_report();
     of_what_is_shown();
     of_a_register();
+    of_a_message();
     return 0;
 }

@@ -1,9 +1,11 @@
-//! The bench, written from the document 01-scope.md alone.
+//! The bench, written from documents 01 and 02 alone.
 
 mod aspect;
 mod heads;
+mod json;
 mod register;
 mod reports;
+pub mod screen;
 mod sheet;
 mod siting;
 mod station;

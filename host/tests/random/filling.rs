@@ -1,13 +1,14 @@
 //! Filling a register by both sides.
 
 use crate::cases::Case;
-use crate::paper;
+use crate::paper::{self, screen};
 use crate::runs::Bench;
+use crate::screens;
 use crate::shipped::{Fields, APPEND, START};
 use crate::tally::{Asked, Tally};
 use crate::values::{self, answer, same, same_bytes, seen};
 use crate::words::Seen;
-use degvuurel::{append, start, Recorder, Report, Settings, Station, ENTRY, HEADER};
+use degvuurel::{append, start, Message, Recorder, Report, Settings, Station, ENTRY, HEADER};
 
 /// What both sides fill: lent bytes, and the station after the last entry.
 #[derive(Clone)]
@@ -98,7 +99,9 @@ pub fn shown_by_both(station: &Station, tally: &mut Tally) -> Result<(), String>
     same(format_args!("outputs"), &aspect.outputs().bits(), &paper::outputs(of_paper.aspect()))?;
     same(format_args!("heads"), &station.heads().map(|outputs| outputs.bits()), &of_paper.heads())?;
     same(format_args!("zones"), &station.zones(), &of_paper.zones())?;
-    same(format_args!("presence"), &station.presence(), &of_paper.presence())
+    same(format_args!("presence"), &station.presence(), &of_paper.presence())?;
+    let number = station.hold;
+    same(format_args!("message"), &screens::message(Message::of(number, station)), &screen::Message::of(number, &of_paper))
 }
 
 /// A recorder fills the same register, stops half way and goes on.

@@ -1,5 +1,5 @@
-//! The proved library and the independent implementation of document 01 side by side, over registers, damaged registers and
-//! stations by chance. Some registers, and damaged ones, go through the archive as it is shipped too, on any processor: that
+//! The proved library and the independent implementation of documents 01 and 02 side by side, over registers, damaged registers,
+//! stations, and texts for the passenger screens by chance. Some registers, and damaged ones, go through the archive as it is shipped too, on any processor: that
 //! needs the kit, whose `rt` is on the PATH.
 //!
 //! `DEGVUUREL_SEED` is the seed, and `DEGVUUREL_REGISTERS` the number of registers; without them every run is the same. A part
@@ -18,6 +18,7 @@ mod refusals;
 mod registers;
 mod reports;
 mod runs;
+mod screens;
 mod settings;
 mod shipped;
 mod shrink;
@@ -31,7 +32,7 @@ mod words;
 use std::env;
 use std::process::ExitCode;
 use std::time::Instant;
-use tally::{Tally, OF_REGISTERS, OF_STATIONS};
+use tally::{Tally, OF_REGISTERS, OF_SCREENS, OF_STATIONS};
 
 const SEED: u64 = 202_510;
 const REGISTERS: u64 = 200_000;
@@ -46,6 +47,10 @@ const FULL: u64 = 2;
 
 /// Appends at the end of the largest register.
 const LAST: u64 = 4_000;
+
+/// Texts for the passenger screens to the usual number of registers, and messages.
+const TEXTS: u64 = 1_000_000;
+const MESSAGES: u64 = 100_000;
 
 /// Registers, and as many damaged ones, that go through the shipped code too.
 const SHIPPED: u64 = 2_000;
@@ -81,6 +86,8 @@ fn main() -> ExitCode {
         runs::run("long damaged registers", seed, LONG / 2, damaged::try_long),
     ];
     let of_stations = [runs::run("stations", seed, others * 2, stations::try_case), signals()];
+    let texts = screens::trial(screens::read, TEXTS * others / REGISTERS, seed);
+    let of_screens = [texts.agreed(), runs::run("messages", seed, MESSAGES * others / REGISTERS, screens::try_writing)];
     shipped::link();
     let of_shipped = [
         runs::run("shipped registers", seed, SHIPPED, |chance, bench| registers::try_case(chance, bench.with_shipped())),
@@ -88,15 +95,18 @@ fn main() -> ExitCode {
     ];
     let least = least_of(number);
     let registers = summed("registers and damaged ones", &of_registers);
-    let mut rare = registers.rare_answers(least);
-    rare.extend(registers.rare_by_what_was_asked(OF_REGISTERS, least));
+    let mut rare = registers.rare_by_what_was_asked(OF_REGISTERS, least);
     let stations = summed("stations, heads and siting", &of_stations);
     rare.extend(stations.rare_by_what_was_asked(OF_STATIONS, least));
+    let screens = summed("texts and messages for the screens", &of_screens);
+    rare.extend(screens.rare_by_what_was_asked(OF_SCREENS, least));
+    rare.extend(summed("all of these", &[Some(registers), Some(stations), Some(screens)]).rare_answers(least));
+    rare.extend(texts.rare_or_wrong(least));
     let through = summed("through the shipped code too", &of_shipped);
     println!("{} calls of the shipped code", through.shipped);
     rare.extend(through.rare_by_what_was_asked(OF_REGISTERS, LEAST_SHIPPED));
     rare.iter().for_each(|what| println!("TOO FEW: {what}"));
-    let agree = of_registers.iter().chain(&of_stations).chain(&of_shipped).all(Option::is_some);
+    let agree = of_registers.iter().chain(&of_stations).chain(&of_screens).chain(&of_shipped).all(Option::is_some);
     let verdict = if agree { "the library and the paper agree" } else { "THE LIBRARY AND THE PAPER DIFFER" };
     println!("{verdict}, {} s", begun.elapsed().as_secs());
     ExitCode::from(u8::from(!agree || !rare.is_empty()))

@@ -15,10 +15,13 @@ pub enum Asked {
     Browse,
     Print,
     Site,
+    Screen,
+    Write,
 }
 
-const KINDS: usize = 10;
-const TITLES: [&str; KINDS] = ["make", "take", "start", "append", "read", "step", "entry", "browse", "print", "site"];
+const KINDS: usize = 12;
+const TITLES: [&str; KINDS] =
+    ["make", "take", "start", "append", "read", "step", "entry", "browse", "print", "site", "screen", "write"];
 const ANSWERS: usize = Answer::ALL.len();
 const ASPECTS: usize = Aspect::ALL.len();
 
@@ -36,6 +39,8 @@ pub const OF_REGISTERS: &Possible = &[
 ];
 
 pub const OF_STATIONS: &Possible = &[(Asked::Make, &[0, 8]), (Asked::Take, &[0, 1, 2, 3, 4, 5, 6, 7, 8]), (Asked::Site, &[0, 8])];
+
+pub const OF_SCREENS: &Possible = &[(Asked::Screen, &[0, 15, 16]), (Asked::Write, &[0, 12, 16])];
 
 /// Counts, which the threads add up.
 #[derive(Clone, Default)]
@@ -94,7 +99,7 @@ impl Tally {
         }
     }
 
-    /// The answers, 0 to 14, that were seen less often than they must be.
+    /// The answers that were seen less often than they must be.
     pub fn rare_answers(&self, least: u64) -> Vec<String> {
         let answers = (0..ANSWERS).filter(|&answer| self.of_answer(answer) < least);
         answers.map(|answer| format!("answer {answer} was seen less than {least} times")).collect()
