@@ -1,7 +1,6 @@
 pub mod Counting
 pub mod Digits
 pub mod Finding
-pub mod Fitting
 pub mod FourTracks
 pub mod Gathering
 pub mod Given
