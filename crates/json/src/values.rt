@@ -1,5 +1,5 @@
-// Sections 3 to 5: values. The readers of values, lists and objects call each other, and the depth left
-// falls.
+// Sections 3 to 5: values. The readers of values, lists and objects call each other with the depth left
+// and the octets left falling; that they end is shown by the depth alone.
 ghost use mathlib.Core.Path.{_≡_};
 ghost use Prim.Native.Nat.{_+_, _<_, _≤_};
 ghost use lib.ListN.{drop, length};
