@@ -1,12 +1,13 @@
 -- The size of a character: what each way through the code returns.
 -- Assumes nothing.
 use Prim.Native.Nat.{ℕ, _≤_, _<_}
-use mathlib.Core.Bool.{Bool, cond, false, not, true, _&&_, _||_}
+use mathlib.Core.Bool.{Bool, and-false, cond, false, not, true, _&&_, _||_}
 use mathlib.Core.List.{List}
 use mathlib.Core.Path.{_≡_, ap, refl, sym, _∙_}
 use native.Mathlib.Omega.{arith}
 use borrow.Author.Tests.{eq-eqb, le-ltb, lt-ltb, ne-eqb}
 use lib.Dec.{eqb, ltb}
+use lib.ListN.{List·getD-eq-default, length}
 use Rattle.json.proofs.Cases.{within-true}
 use Rattle.rules_json.specs.Abnf.{within}
 use Rattle.rules_json.specs.Grammar.{escaped, hexdig}
@@ -77,6 +78,13 @@ module _ (s : List ℕ) (letter : ℕ) (e : letter ≡ at s 1) where
   unfolding escapeSize
   escape-is h =
       ap (λ t. cond t (cond (four s) 6 0) (cond (eqb (escaped (at s 1)) 0) 0 2)) (sym h ∙ ap (λ n. eqb n 0x75) e)
+
+  pub too-short : letter ≡ 0x75 → length s < 6 → 0 ≡ escapeSize s
+  too-short h l =
+      sym (ap (λ t. cond t 6 0) (cut (hexdig (at s 2) && hexdig (at s 3) && hexdig (at s 4)))) ∙ escape-is (eq-eqb _ _ h)
+    where
+      cut : (t : Bool) → t && hexdig (at s 5) ≡ false
+      cut t = ap (λ b. t && hexdig b) (List·getD-eq-default s 0 (omega arith)) ∙ and-false t
 
   pub long-escape : letter ≡ 0x75 → (a b c d : Bool) (r : ℕ) → r ≡ cond (a && b && c && d) 6 0
       → a ≡ hexdig (at s 2) → b ≡ hexdig (at s 3) → c ≡ hexdig (at s 4) → d ≡ hexdig (at s 5) → r ≡ escapeSize s

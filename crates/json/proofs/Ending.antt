@@ -4,7 +4,7 @@ use mathlib.Core.Path.{_≡_, refl, sym, ap, _∙_}
 use mathlib.Core.Bool.{cond}
 use mathlib.Core.List.{List}
 use Prim.Native.Nat.{ℕ, zero, suc, _≤_, _+_}
-use native.Mathlib.Nat.{add-assoc, add-zero, zero-add}
+use native.Mathlib.Nat.{add-assoc, add-zero}
 use native.Mathlib.Omega.{arith}
 use borrow.Author.Tests.{ne-eqb}
 use lib.Dec.{eqb}
@@ -32,18 +32,6 @@ finish-further start place n (suc m) =
     ∙ finish-some start place (n + suc m) (omega arith)
     ∙ sym (add-assoc place n (suc m))
     ∙ sym (finish-some start (place + n) (suc m) (omega arith))
-
-pub further-none : (m : ℕ) → further 0 m ≡ m
-further-none zero = refl
-further-none (suc m) = further-more 0 (suc m) (omega arith) ∙ zero-add (suc m)
-
-pub further-further : (n k m : ℕ) → further n (further k m) ≡ further (n + k) m
-further-further n k zero = refl
-further-further n k (suc m) =
-    ap (further n) (further-more k (suc m) (omega arith))
-    ∙ further-more n (k + suc m) (omega arith)
-    ∙ sym (add-assoc n k (suc m))
-    ∙ sym (further-more (n + k) (suc m) (omega arith))
 
 finish-whole : (start n : ℕ) → finish start start n ≡ start + n
 finish-whole start zero = sym (add-zero start)

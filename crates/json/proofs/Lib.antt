@@ -5,7 +5,6 @@ pub mod Further
 pub mod NumberSizes
 pub mod CharacterSizes
 pub mod Decoded
-pub mod SaidInAscii
 pub mod Spelt
 pub mod Behind
 pub mod Turning

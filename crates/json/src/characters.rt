@@ -1,15 +1,13 @@
 // Section 7: a character of a string, in UTF-8 or behind an escape. Each function here is given the
 // text from the character on, and tells its size: 0 where there is none.
-ghost use mathlib.Core.Bool.{cond, true};
+ghost use mathlib.Core.Bool.{cond};
 ghost use mathlib.Core.Path.{_≡_};
-ghost use Prim.Native.Nat.{_+_, _*_, _≤_};
-ghost use Rattle.json.specs.Ascii.{asciiSaid, escapedAscii};
-ghost use Rattle.rules_json.specs.Grammar.{escaped as escapedBy, hexdig, hexValue};
+ghost use Rattle.rules_json.specs.Grammar.{escaped as escapedBy, hexdig};
 ghost use Rattle.rules_json.specs.Reader.{charSize, escapeSize, second as mayBeSecond, tail as isTail, utf8Size};
 use crate::octets::octet;
 
 // How many octets the character at the head has.
-pub fn character(head: &[u8]) -> usize
+pub(crate) fn character(head: &[u8]) -> usize
     ensures { λ r. ⌜ r ≡ charSize (now (head .entry)) ⌝ }
 {
     let first = octet(head, 0);
@@ -23,43 +21,16 @@ pub fn character(head: &[u8]) -> usize
     encoded(head)
 }
 
-// The character of ASCII that it says, and 0 where it says another.
-pub fn ascii(head: &[u8]) -> u8
-    ensures { λ r. ⌜ r ≡ asciiSaid (now (head .entry)) ⌝ }
-{
-    if character(head) == 0 {
-        return 0;
-    }
-    let first = octet(head, 0);
-    if first == b'\\' {
-        return escaped_ascii(head);
-    }
-    if 0x80 <= first {
-        return 0;
-    }
-    first
-}
-
-// The same behind an escape, where there is one.
-fn escaped_ascii(head: &[u8]) -> u8
-    requires { ⌜ ((escapeSize (now head) ≡ 0) → ⊥) ⌝ }
-    ensures { λ r. ⌜ r ≡ escapedAscii (now (head .entry)) ⌝ }
-{
-    let letter = octet(head, 1);
-    if letter != b'u' {
-        return escaped(letter);
-    }
-    let high = hex_pair(octet(head, 2), octet(head, 3));
-    let low = hex_pair(octet(head, 4), octet(head, 5));
-    if (high == 0) & (low < 0x80) { low } else { 0 }
-}
-
 // escape ( %x22 / %x5C / %x2F / %x62 / %x66 / %x6E / %x72 / %x74 / %x75 4HEXDIG )
 fn escape(head: &[u8]) -> usize
     ensures { λ r. ⌜ r ≡ escapeSize (now (head .entry)) ⌝ }
 {
     let letter = octet(head, 1);
     if letter == b'u' {
+        // Asked once for the four octets below.
+        if head.len() < 6 {
+            return 0;
+        }
         let four = hex(octet(head, 2))
             & hex(octet(head, 3))
             & hex(octet(head, 4))
@@ -86,30 +57,7 @@ fn escaped(letter: u8) -> u8
     }
 }
 
-// The number that two hexadecimal digits stand for.
-fn hex_pair(high: u8, low: u8) -> u8
-    requires { ⌜ hexdig high ≡ true ⌝ }
-    requires { ⌜ hexdig low ≡ true ⌝ }
-    ensures { λ r. ⌜ r ≡ hexValue high * 16 + hexValue low ⌝ }
-{
-    hex_value(high) * 16 + hex_value(low)
-}
-
-// The number that a hexadecimal digit stands for.
-fn hex_value(found: u8) -> u8
-    requires { ⌜ hexdig found ≡ true ⌝ }
-    ensures { λ r. ⌜ r ≡ hexValue found ⌝ }
-    ensures { λ r. ⌜ r ≤ 15 ⌝ }
-{
-    if (b'0' <= found) & (found <= b'9') {
-        return found - b'0';
-    }
-    if (b'A' <= found) & (found <= b'F') {
-        return found - 0x37;
-    }
-    found - 0x57
-}
-
+// HEXDIG, in either case.
 fn hex(found: u8) -> bool
     ensures { λ r. ⌜ r ≡ hexdig found ⌝ }
 {

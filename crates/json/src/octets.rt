@@ -2,7 +2,14 @@
 ghost use mathlib.Core.Path.{_≡_};
 ghost use Prim.Native.Nat.{_+_};
 ghost use lib.ListN.{drop};
+ghost use Rattle.json.specs.Skipping.{Skips};
 ghost use Rattle.rules_json.specs.Reader.{at, blanks as blanksAtHead, digits as digitsAtHead};
+
+// An octet and its place.
+pub(crate) struct Next {
+    pub place: usize,
+    pub octet: u8,
+}
 
 // The octet at a place: past the end it is 0, which no rule takes.
 pub fn octet(text: &[u8], place: usize) -> u8
@@ -15,16 +22,27 @@ pub fn octet(text: &[u8], place: usize) -> u8
 pub fn blanks(text: &[u8], place: usize) -> usize
     ensures { λ r. ⌜ r ≡ place + blanksAtHead (drop place (now (text .entry))) ⌝ }
 {
+    let next = past_blanks(text, place);
+    next.place
+}
+
+// The same, with the octet that stands there: it has been looked at already.
+pub(crate) fn past_blanks(text: &[u8], place: usize) -> Next
+    ensures { λ r. ⌜ Skips (now (text .entry)) place r ⌝ }
+{
     let mut past = place;
     while past < text.len() {
-        let found = text[past];
-        let blank = (found == b' ') | (found == b'\t') | (found == b'\n') | (found == b'\r');
+        let octet = text[past];
+        let blank = (octet == b' ') | (octet == b'\t') | (octet == b'\n') | (octet == b'\r');
         if !blank {
-            return past;
+            return Next { place: past, octet };
         }
         past = past + 1;
     }
-    past
+    Next {
+        place: past,
+        octet: 0,
+    }
 }
 
 // Past the digits at a place.

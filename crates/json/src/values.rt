@@ -5,8 +5,8 @@ ghost use Prim.Native.Nat.{_+_, _<_, _≤_};
 ghost use lib.ListN.{drop, length};
 ghost use Rattle.rules_json.specs.Reader.{at as octetAt, scalarSize, valueSize, wordSize};
 use crate::numbers::number;
-use crate::octets::blanks;
 use crate::octets::octet;
+use crate::octets::past_blanks;
 use crate::strings::member_name;
 use crate::strings::string;
 
@@ -14,7 +14,14 @@ use crate::strings::string;
 pub fn value(text: &[u8], at: usize, deep: u8) -> usize
     ensures { λ r. ⌜ r ≡ at + valueSize deep (drop at (now (text .entry))) ⌝ }
 {
-    let first = octet(text, at);
+    value_from(text, at, octet(text, at), deep)
+}
+
+// The same, by the octet at its place.
+fn value_from(text: &[u8], at: usize, first: u8, deep: u8) -> usize
+    requires { ⌜ first ≡ octetAt (now text) at ⌝ }
+    ensures { λ r. ⌜ r ≡ at + valueSize deep (drop at (now (text .entry))) ⌝ }
+{
     if first == b'{' {
         return object(text, at, deep);
     }
@@ -32,24 +39,23 @@ fn list(text: &[u8], at: usize, deep: u8) -> usize
     if deep == 0 {
         return at;
     }
-    let mut place = blanks(text, at + 1);
-    if octet(text, place) == b']' {
-        return place + 1;
+    let mut item = past_blanks(text, at + 1);
+    if item.octet == b']' {
+        return item.place + 1;
     }
-    while place < text.len() {
-        let past = value(text, place, deep - 1);
-        if past == place {
+    while item.place < text.len() {
+        let past = value_from(text, item.place, item.octet, deep - 1);
+        if past == item.place {
             return at;
         }
-        let behind = blanks(text, past);
-        let found = octet(text, behind);
-        if found == b']' {
-            return behind + 1;
+        let next = past_blanks(text, past);
+        if next.octet == b']' {
+            return next.place + 1;
         }
-        if found != b',' {
+        if next.octet != b',' {
             return at;
         }
-        place = blanks(text, behind + 1);
+        item = past_blanks(text, next.place + 1);
     }
     at
 }
@@ -62,28 +68,27 @@ fn object(text: &[u8], at: usize, deep: u8) -> usize
     if deep == 0 {
         return at;
     }
-    let mut place = blanks(text, at + 1);
-    if octet(text, place) == b'}' {
-        return place + 1;
+    let mut item = past_blanks(text, at + 1);
+    if item.octet == b'}' {
+        return item.place + 1;
     }
-    while place < text.len() {
-        let inner = member_name(text, place);
-        if inner == place {
+    while item.place < text.len() {
+        let inner = member_name(text, item.place);
+        if inner == item.place {
             return at;
         }
         let past = value(text, inner, deep - 1);
         if past == inner {
             return at;
         }
-        let behind = blanks(text, past);
-        let found = octet(text, behind);
-        if found == b'}' {
-            return behind + 1;
+        let next = past_blanks(text, past);
+        if next.octet == b'}' {
+            return next.place + 1;
         }
-        if found != b',' {
+        if next.octet != b',' {
             return at;
         }
-        place = blanks(text, behind + 1);
+        item = past_blanks(text, next.place + 1);
     }
     at
 }
@@ -94,8 +99,20 @@ fn scalar(text: &[u8], at: usize, first: u8) -> usize
     ensures { λ r. ⌜ r ≡ at + scalarSize (drop at (now (text .entry))) ⌝ }
 {
     if first == b'"' {
-        return string(text, at);
+        return at + string(&text[at..]);
     }
+    if b'a' <= first {
+        return letters(text, at, first);
+    }
+    number(text, at)
+}
+
+// Past false, null or true, where an octet from a on stands at the place: no number begins with one.
+fn letters(text: &[u8], at: usize, first: u8) -> usize
+    requires { ⌜ first ≡ octetAt (now text) at ⌝ }
+    requires { ⌜ 0x61 ≤ first ⌝ }
+    ensures { λ r. ⌜ r ≡ at + scalarSize (drop at (now (text .entry))) ⌝ }
+{
     if first == b'f' {
         return literal(text, at, b"false");
     }
@@ -105,7 +122,7 @@ fn scalar(text: &[u8], at: usize, first: u8) -> usize
     if first == b't' {
         return literal(text, at, b"true");
     }
-    number(text, at)
+    at
 }
 
 // Past a word, where it stands at a place.

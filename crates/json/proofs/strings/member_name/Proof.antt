@@ -1,54 +1,119 @@
 -- `member_name`: a string, a colon between blanks.
 -- Assumes nothing.
-use mathlib.Core.Path.{sym, _∙_}
+use mathlib.Core.List.{List}
+use mathlib.Core.Path.{_≡_, ap, refl, sym, _∙_}
+use Prim.Native.Nat.{ℕ, _+_, _≤_, _<_}
 use native.Mathlib.Omega.{arith}
-use Rattle.json.proofs.Named.{name-taken, no-separator-named, no-string-named}
-use Rattle.json.proofs.Places.{in-text}
 use borrow.Author.Needs.{needs}
+use lib.ListN.{drop, length, length-drop}
+use Rattle.json.proofs.Behind.{part-behind}
+use Rattle.json.proofs.Named.{name-taken, no-separator-named, no-string-named}
+use Rattle.json.proofs.Places.{first-behind, in-text}
+use Rattle.json.proofs.Quoted.{no-string}
+use Rattle.rules_json.specs.Reader.{at, stringSize}
 use Rattle.json.proofs.strings.member_name.Statement.{statement}
 use Rattle.json.proofs.strings.member_name.Tie as tie
-
-string-requires : tie.Need-string-requires
-string-requires c κs = search needs
-
-returns : tie.Need-returns
-returns c = no-string-named _ _ _ (c .before .string .ensures) (c .if1 .taken)
-
-blanks-requires : tie.Need-blanks-requires
-blanks-requires c κs = search needs
 
 octet-requires : tie.Need-octet-requires
 octet-requires c κs = search needs
 
+returns : tie.Need-returns
+returns c =
+    let given = c .before .before .before .args in
+    no-string-named (given .text .now) (given .at) (given .at)
+    (no-string (given .text .now) (given .at) (λ e. c .if1 .taken (c .before .octet .ensures ∙ e))) refl
+
+within : (c : tie.Else1) → c .before .before .before .args .at < length (c .before .before .before .args .text .now)
+within c =
+    let given = c .before .before .before .args in
+    in-text (given .text .now) (given .at) (λ e. omega (arith, c .before .octet .ensures, c .if1 .left))
+
+sub-string : tie.Need-sub-string
+sub-string c = omega (arith, within c)
+
+part-string-start : tie.Need-part-string-start
+part-string-start c = omega (arith, within c)
+
+part-string-end : tie.Need-part-string-end
+part-string-end c = search needs
+
+string-requires : tie.Need-string-requires
+string-requires c κs =
+    let given = c .before .before .before .before .args in
+    ap (λ l. at l 0) (part-behind (given .text .now) (given .at))
+    ∙ first-behind (given .text .now) (given .at) ∙ sym (c .before .before .octet .ensures) ∙ c .before .if1 .left
+
+module _ (c : tie.After-string) where
+  abbrev given : tie.Start
+  given = c .before .before .before .before .before
+
+  abbrev lent : List ℕ
+  lent = given .args .text .now
+
+  abbrev place : ℕ
+  place = given .args .at
+
+  past : place + c .string .result ≡ place + stringSize (drop place lent)
+  past = ap (place +_) (c .string .ensures .0 ∙ ap stringSize (part-behind lent place))
+
+  past-within : place + c .string .result ≤ length lent
+  past-within =
+      omega (arith, within (c .before .before), c .string .ensures .1, ap length (part-behind lent place), length-drop place lent)
+
 returns-2 : tie.Need-returns-2
 returns-2 c =
-    no-separator-named _ _ _ (c .before .before .before .before .string .ensures)
-    (c .before .before .before .if1 .left) _ (c .before .before .blanks .ensures)
-    (λ e. c .if2 .taken (c .before .octet .ensures ∙ e))
+    no-string-named (lent (c .before)) (place (c .before)) (place (c .before)) (omega (arith, past (c .before), c .if2 .taken))
+    refl
 
-add-blanks : tie.Need-add-blanks
-add-blanks c =
-    let text = c .before .before .before .before .before .before .args .text .now in
-    omega (arith, in-text text (c .before .before .blanks .result) (λ e. omega arith))
+add-past-blanks : tie.Need-add-past-blanks
+add-past-blanks c = omega (arith, past-within (c .before), given (c .before) .good)
 
-blanks-requires-2 : tie.Need-blanks-requires-2
-blanks-requires-2 c κs = search needs
+past-blanks-requires : tie.Need-past-blanks-requires
+past-blanks-requires c κs = search needs
 
 returns-3 : tie.Need-returns-3
 returns-3 c =
-    name-taken _ _ _ (c .before .before .before .before .before .string .ensures)
-    (c .before .before .before .before .if1 .left) _ (c .before .before .before .blanks .ensures)
-    (sym (c .before .before .octet .ensures) ∙ c .before .if2 .left) _ (c .blanks2 .ensures)
+    let separator = c .before .before in
+    let read = separator .before .before in
+    no-separator-named (lent read) (place read) _ (past read) (λ e. separator .before .if2 .left (omega arith)) _
+    (separator .past-blanks .ensures .place)
+    (λ e. c .if3 .taken (separator .past-blanks .ensures .octet ∙ e))
+
+add-blanks : tie.Need-add-blanks
+add-blanks c =
+    let separator = c .before .before .before in
+    let found = separator .past-blanks in
+    omega (
+      arith,
+      in-text (lent (separator .before .before)) (found .result .place)
+          (λ e. omega (arith, found .ensures .octet, c .before .if3 .left)),
+    )
+
+blanks-requires : tie.Need-blanks-requires
+blanks-requires c κs = search needs
+
+returns-4 : tie.Need-returns-4
+returns-4 c =
+    let separator = c .before .before .before .before in
+    let read = separator .before .before in
+    name-taken (lent read) (place read) _ (past read) (λ e. separator .before .if2 .left (omega arith)) _
+    (separator .past-blanks .ensures .place)
+    (sym (separator .past-blanks .ensures .octet) ∙ c .before .before .if3 .left) _ (c .blanks .ensures)
 
 pub member-name-spec : {M : Type 1} → statement M
 member-name-spec =
     tie.close
     (tie.spec
-    string-requires
-    returns
-    blanks-requires
     octet-requires
+    returns
+    sub-string
+    part-string-start
+    part-string-end
+    string-requires
     returns-2
+    add-past-blanks
+    past-blanks-requires
+    returns-3
     add-blanks
-    blanks-requires-2
-    returns-3)
+    blanks-requires
+    returns-4)

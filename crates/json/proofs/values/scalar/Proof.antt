@@ -1,80 +1,81 @@
 -- `scalar`: by the octet at its place.
 -- Assumes nothing.
+use mathlib.Core.Path.{ap, sym, _∙_}
+use Prim.Native.Nat.{_+_, _<_}
 use native.Mathlib.Omega.{arith}
 use borrow.Author.Needs.{needs}
-use Rattle.json.proofs.Places.{in-text}
+use lib.ListN.{length, length-drop}
+use Rattle.json.proofs.Behind.{part-behind}
+use Rattle.json.proofs.Places.{first-behind, in-text}
 use Rattle.json.proofs.Scalars.{number-read, scalar-read}
+use Rattle.rules_json.specs.Reader.{at, stringSize}
 use Rattle.json.proofs.values.scalar.Statement.{statement}
 use Rattle.json.proofs.values.scalar.Tie as tie
 
+within : (c : tie.Then1) → c .before .before .args .at < length (c .before .before .args .text .now)
+within c =
+    let given = c .before .before in
+    in-text (given .args .text .now) (given .args .at) (λ e. omega (arith, given .pre, c .if1 .taken))
+
+sub-string : tie.Need-sub-string
+sub-string c = omega (arith, within c)
+
+part-string-start : tie.Need-part-string-start
+part-string-start c = omega (arith, within c)
+
+part-string-end : tie.Need-part-string-end
+part-string-end c = search needs
+
 string-requires : tie.Need-string-requires
-string-requires c κs = search needs
+string-requires c κs =
+    let given = c .before .before .before in
+    ap (λ l. at l 0) (part-behind (given .args .text .now) (given .args .at))
+    ∙ first-behind (given .args .text .now) (given .args .at) ∙ sym (given .pre) ∙ c .before .if1 .taken
+
+add-result : tie.Need-add-result
+add-result c =
+    let given = c .before .before .before .before in
+    omega (
+      arith,
+      given .good,
+      within (c .before .before),
+      c .string .ensures .1,
+      ap length (part-behind (given .args .text .now) (given .args .at)),
+      length-drop (given .args .at) (given .args .text .now),
+    )
 
 returns : tie.Need-returns
-returns c = scalar-read _ _ _ 0x22 _ (c .before .before .before .pre) (c .before .if1 .taken) (c .string .ensures)
+returns c =
+    let given = c .before .before .before .before in
+    scalar-read (given .args .text .now) (given .args .at) _ 0x22 _ (given .pre) (c .before .before .if1 .taken)
+    (ap (given .args .at +_) (c .string .ensures .0 ∙ ap stringSize (part-behind (given .args .text .now) (given .args .at))))
 
-slice-aggregate-literal : tie.Need-slice-aggregate-literal
-slice-aggregate-literal c = search needs
-
-literal-requires : tie.Need-literal-requires
-literal-requires c κs =
-    let given = c .before .before .before .before .args in
-    (in-text (given .text .now) (given .at) (λ e. omega arith), omega arith)
+letters-requires : tie.Need-letters-requires
+letters-requires c κs = search needs
 
 returns-2 : tie.Need-returns-2
-returns-2 c =
-    scalar-read _ _ _ 0x66 _ (c .before .before .before .before .before .pre)
-    (c .before .before .if2 .taken) (c .literal .ensures)
-
-slice-aggregate-literal-2 : tie.Need-slice-aggregate-literal-2
-slice-aggregate-literal-2 c = search needs
-
-literal-requires-2 : tie.Need-literal-requires-2
-literal-requires-2 c κs =
-    let given = c .before .before .before .before .before .args in
-    (in-text (given .text .now) (given .at) (λ e. omega arith), omega arith)
-
-returns-3 : tie.Need-returns-3
-returns-3 c =
-    scalar-read _ _ _ 0x6E _ (c .before .before .before .before .before .before .pre)
-    (c .before .before .if3 .taken) (c .literal2 .ensures)
-
-slice-aggregate-literal-3 : tie.Need-slice-aggregate-literal-3
-slice-aggregate-literal-3 c = search needs
-
-literal-requires-3 : tie.Need-literal-requires-3
-literal-requires-3 c κs =
-    let given = c .before .before .before .before .before .before .args in
-    (in-text (given .text .now) (given .at) (λ e. omega arith), omega arith)
-
-returns-4 : tie.Need-returns-4
-returns-4 c =
-    scalar-read _ _ _ 0x74 _ (c .before .before .before .before .before .before .before .pre)
-    (c .before .before .if4 .taken) (c .literal3 .ensures)
+returns-2 c = search needs
 
 number-requires : tie.Need-number-requires
 number-requires c κs = search needs
 
-returns-5 : tie.Need-returns-5
-returns-5 c =
-    number-read _ _ _ _ (c .before .before .before .before .before .before .pre)
-    (c .before .before .before .before .if1 .left) (c .before .before .before .if2 .left) (c .before .before .if3 .left)
-    (c .before .if4 .left) (c .number .ensures)
+returns-3 : tie.Need-returns-3
+returns-3 c =
+    let given = c .before .before .before .before in
+    number-read (given .args .text .now) (given .args .at) (given .args .first) (given .pre) (λ e. omega arith)
+    (λ e. omega arith) (λ e. omega arith) (c .before .before .if1 .left) _ (c .number .ensures)
 
 pub scalar-spec : {M : Type 1} → statement M
 scalar-spec =
     tie.close
     (tie.spec
+    sub-string
+    part-string-start
+    part-string-end
     string-requires
+    add-result
     returns
-    slice-aggregate-literal
-    literal-requires
+    letters-requires
     returns-2
-    slice-aggregate-literal-2
-    literal-requires-2
-    returns-3
-    slice-aggregate-literal-3
-    literal-requires-3
-    returns-4
     number-requires
-    returns-5)
+    returns-3)
