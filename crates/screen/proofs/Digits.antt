@@ -13,14 +13,14 @@ use lib.ListN.{drop, length, length-set, replicate, set, take}
 use lib.Seq.{length-take-le, take-all, take-suc-set}
 use Rattle.json.proofs.Bracketed.{Item}
 use Rattle.json.proofs.Cases.{both, by-test, within-true}
-use Rattle.json.proofs.Places.{first-behind, in-text, octet-behind}
+use Rattle.json.proofs.Places.{first-behind, in-text}
 use Rattle.rules.specs.Screen.{isThere, numberOf, orElse, provided}
 use Rattle.rules_json.specs.Grammar.{digit}
 use Rattle.rules_json.specs.Reader.{at, blanks, numberSize, valueSaid, valueSize}
-use Rattle.screen.proofs.Counting.{apart, head-digit, number-up-to, number-value}
+use Rattle.screen.proofs.Counting.{apart, number-up-to, number-value}
 use Rattle.screen.proofs.Listed.{Listed, closed, given, gives-all, gives-none, gives-too-many}
 use Rattle.screen.proofs.Listed.{list-begins, list-empty, list-ends, list-on, no-list}
-use Rattle.screen.proofs.Single.{digit-alone, ends-behind, number-alone, small-alone, small-begins}
+use Rattle.screen.proofs.Single.{alone-at, ends-behind, number-alone, number-at, small-alone, small-begins}
 use Rattle.screen.specs.Places.{fiveAt, goesOnWith, numberHere}
 use Rattle.screen.specs.declared.tracks.Five.{Five}
 
@@ -148,8 +148,7 @@ module _ {text : List ℕ} {start place : ℕ} {digits : List ℕ} {count found 
   module _ (one : numberSize (drop place text) ≡ 1) where
     digit-is : numberOf 1 (valueSaid 5 (drop place text)) ≡ some (found - 48)
     digit-is =
-        by-number (r .so-far) (number-alone (drop place text) (head-digit text place begins) one
-        ∙ ap (λ b. b - 48) (first-behind text place ∙ sym (r .found-is)))
+        by-number (r .so-far) (number-at text place begins one ∙ ap (λ b. b - 48) (sym (r .found-is)))
         ∙ ap (λ t. provided t (found - 48)) (le-leb (found - 48) 1 (omega (arith, zero-or-one found (r .small))))
 
     digit-item : Item (valueSize 5) text place next octet
@@ -169,8 +168,7 @@ module _ {text : List ℕ} {start place : ℕ} {digits : List ℕ} {count found 
         ∙ ap (λ t. provided t (had ++ (found - 48) ∷ [])) (ap (λ n. eqb (n + 1) 5) (counted (r .so-far)) ∙ e)
 
   alone : goesOnWith octet ≡ false → numberSize (drop place text) ≡ 1
-  alone h = digit-alone (drop place text) (head-digit text place begins)
-      (ap goesOnWith (octet-behind text place 1) ∙ ends-behind text (place + 1) next octet (r .skips) (r .octet-is) h)
+  alone h = alone-at text place begins (ends-behind text (place + 1) next octet (r .skips) (r .octet-is) h)
 
   pub digit-on : octet ≡ 0x2C → {after : ℕ} → after ≡ next + 1 + blanks (drop (next + 1) text)
       → Digits text start after with (count + 1)

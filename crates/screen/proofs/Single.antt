@@ -11,12 +11,12 @@ use lib.Dec.{eqb, leb}
 use lib.ListN.{drop, take}
 use Rattle.chains.proofs.Chains.{neither}
 use Rattle.json.proofs.Cases.{by-test, within-true}
-use Rattle.json.proofs.Places.{first-behind}
+use Rattle.json.proofs.Places.{first-behind, octet-behind}
 use Rattle.rules.specs.Screen.{numberAfter, orElse, ourNumber, provided}
 use Rattle.rules.specs.Words.{any}
 use Rattle.rules_json.specs.Grammar.{blank, digit}
 use Rattle.rules_json.specs.Reader.{at, blanks, digits, expSize, fracSize, intSize, leading, numberSize}
-use Rattle.screen.proofs.Counting.{digit-text, grows, no-number, noDigit, other-than}
+use Rattle.screen.proofs.Counting.{digit-text, grows, head-digit, no-number, noDigit, other-than}
 use Rattle.screen.proofs.Within.{number-within}
 use Rattle.screen.specs.Places.{goesOnWith, numberHere}
 
@@ -37,7 +37,7 @@ unfolding intSize digits
 int-alone b s first h = rw (first, none-leading digit s h) (by-test (eqb b 0x30) (λ t. rw t) (λ t. rw t))
 
 -- where the number does not go on, it is one octet
-pub digit-alone : (s : List ℕ) → digit (at s 0) ≡ true → goesOnWith (at s 1) ≡ false → numberSize s ≡ 1
+digit-alone : (s : List ℕ) → digit (at s 0) ≡ true → goesOnWith (at s 1) ≡ false → numberSize s ≡ 1
 digit-alone [] first h = absurd (false≢true first)
 digit-alone (b ∷ s) first h =
     let (three, great) = neither _ _ h in
@@ -70,6 +70,17 @@ number-alone (b ∷ s) first one =
     let (least, most) = within-true 0x30 0x39 b first in
     ap (λ t. orElse 65536 (ourNumber 65535 t)) (digit-text (b ∷ s) first ∙ ap (λ n. take n (b ∷ s)) one)
     ∙ rw (first, le-leb (10 * 0 + (b - 48)) 65535 (omega arith)) (omega arith)
+
+-- ---- at a place
+
+module _ (text : List ℕ) (place : ℕ) (begins : digit (at text place) ≡ true) where
+  pub alone-at : goesOnWith (at text (place + 1)) ≡ false → numberSize (drop place text) ≡ 1
+  alone-at h =
+      digit-alone (drop place text) (head-digit text place begins) (ap goesOnWith (octet-behind text place 1) ∙ h)
+
+  pub number-at : numberSize (drop place text) ≡ 1 → numberHere (drop place text) ≡ at text place - 48
+  number-at one =
+      number-alone (drop place text) (head-digit text place begins) one ∙ ap (λ b. b - 48) (first-behind text place)
 
 -- ---- a number that is at most 1
 
