@@ -1,7 +1,7 @@
 -- Our numbers: octet by octet, and where there is none.
 -- Assumes nothing.
 use Prim.Native.Nat.{ℕ, zero, suc, _+_, _-_, _*_, _≤_, _<_}
-use mathlib.Core.Bool.{Bool, cond, false, not, true, _&&_, _||_}
+use mathlib.Core.Bool.{Bool, cond, false, false≢true, not, true, _&&_, _||_}
 use mathlib.Core.List.{List, [], _∷_}
 use mathlib.Core.Option.{none}
 use mathlib.Core.Path.{_≡_, ap, refl, sym, _∙_}
@@ -11,7 +11,6 @@ use borrow.Author.Tests.{eqb-true, leb-false, le-leb, lt-leb, ne-eqb}
 use lib.Dec.{eqb, leb}
 use lib.ListN.{drop, drop-of-length-le, getD, length, length-drop, take}
 use lib.Seq.{drop-cons}
-use Rattle.json.proofs.Cases.{by-test}
 use Rattle.json.proofs.Nested.{scalar-value}
 use Rattle.json.proofs.Places.{first-behind, taken-in-text}
 use Rattle.rules.specs.Screen.{isEmpty, numberAfter, numberOf, numberText, orElse, ourNumber, provided}
@@ -154,19 +153,24 @@ number-said most deep s = by-head (eqb (at s 0) 0x7B) (eqb (at s 0) 0x5B) refl r
     by-head false true e f members values = sym (bracket 0x5B refl f)
     by-head false false e f members values = refl
 
-module _ (s : List ℕ) (h : digit (at s 0) ≡ true) where
-  pub other-than : (b : ℕ) → digit b ≡ false → eqb (at s 0) b ≡ false
-  other-than b n =
-      ne-eqb (at s 0) b (λ z. let o : true ≡ false = sym h ∙ ap digit z
-      ∙ n in let y : _≡_ {A = ℕ} 0 1 = cc in omega arith)
+-- an octet of a class is none that is not of it
+pub apart : (class : ℕ → Bool) (a b : ℕ) → class a ≡ true → class b ≡ false → a ≡ b → ⊥
+apart class a b h n z = false≢true (sym n ∙ ap class (sym z) ∙ h)
 
-  pub digit-size : scalarSize s ≡ numberSize s
+pub other-than : (class : ℕ → Bool) (a : ℕ) → class a ≡ true → (b : ℕ) → class b ≡ false → eqb a b ≡ false
+other-than class a h b n = ne-eqb a b (apart class a b h n)
+
+module _ (s : List ℕ) (h : digit (at s 0) ≡ true) where
+  other : (b : ℕ) → digit b ≡ false → eqb (at s 0) b ≡ false
+  other = other-than digit (at s 0) h
+
+  digit-size : scalarSize s ≡ numberSize s
   unfolding scalarSize
-  digit-size = rw (other-than 0x22 refl, other-than 0x66 refl, other-than 0x6E refl, other-than 0x74 refl)
+  digit-size = rw (other 0x22 refl, other 0x66 refl, other 0x6E refl, other 0x74 refl)
 
   pub digit-text : numberText (scalarSaid s) ≡ take (numberSize s) s
   unfolding scalarSaid
-  digit-text = rw (other-than 0x22 refl, other-than 0x66 refl, other-than 0x6E refl, other-than 0x74 refl)
+  digit-text = rw (other 0x22 refl, other 0x66 refl, other 0x6E refl, other 0x74 refl)
 
 -- ---- the number at a place
 
@@ -181,23 +185,19 @@ module _ (text : List ℕ) (place : ℕ) where
   unfolding numberHere
   number-none h = sym (ap (orElse 65536) (no-number 65535 (drop place text) (ap digit (first-behind text place) ∙ h)))
 
-  -- a number there begins with a digit, and is a scalar
-  pub number-begins : numberHere (drop place text) < 65536 → digit (at text place) ≡ true
-  number-begins h = by-test (digit (at text place)) (λ e. e) (λ e. absurd (omega (arith, number-none e)))
-
   module _ (h : digit (at text place) ≡ true) where
-    first-digit : digit (at (drop place text) 0) ≡ true
-    first-digit = ap digit (first-behind text place) ∙ h
+    pub head-digit : digit (at (drop place text) 0) ≡ true
+    head-digit = ap digit (first-behind text place) ∙ h
 
-    apart : (b : ℕ) → digit b ≡ false → at text place ≡ b → ⊥
-    apart b n z = let o : true ≡ false = sym h ∙ ap digit z ∙ n in let y : _≡_ {A = ℕ} 0 1 = cc in omega arith
-
-    pub number-value : (deep : ℕ) → valueSize deep (drop place text) ≡ scalarSize (drop place text)
-    number-value deep = scalar-value text place deep (apart 0x7B refl) (apart 0x5B refl)
+    -- what begins with a digit is a number
+    pub number-value : (deep : ℕ) → valueSize deep (drop place text) ≡ numberSize (drop place text)
+    number-value deep =
+        scalar-value text place deep (apart digit _ _ h refl) (apart digit _ _ h refl)
+        ∙ digit-size (drop place text) head-digit
 
     module _ (past : ℕ) (p : past ≡ place + valueSize 0 (drop place text)) where
       sized : past ≡ place + numberSize (drop place text)
-      sized = omega (arith, p, number-value 0, digit-size (drop place text) first-digit)
+      sized = omega (arith, p, number-value 0)
 
       pub number-ends : (place ≤ past) × (past ≤ length text)
       number-ends = (
@@ -217,4 +217,4 @@ module _ (text : List ℕ) (place : ℕ) where
       number-some =
           let size : past - place ≡ numberSize (drop place text) = omega (arith, sized) in
           ap (λ n. orElse 65536 (ourNumber 65535 (take n (drop place text)))) size
-          ∙ ap (λ t. orElse 65536 (ourNumber 65535 t)) (sym (digit-text (drop place text) first-digit))
+          ∙ ap (λ t. orElse 65536 (ourNumber 65535 t)) (sym (digit-text (drop place text) head-digit))

@@ -1,6 +1,6 @@
 -- A list in a text that has been taken, value by value: what it gives where each of its values gives something.
 -- Assumes nothing.
-use Prim.Native.Nat.{ℕ, suc, _+_, _≤_, _<_}
+use Prim.Native.Nat.{ℕ, suc, _+_, _≤_}
 use mathlib.Core.Bool.{Bool, cond, false, true}
 use mathlib.Core.List.{List, [], _∷_, _++_}
 use mathlib.Core.Option.{Option, none, some}
@@ -11,7 +11,7 @@ use borrow.Author.Tests.{eqb-false, eqb-true}
 use lib.Dec.{eqb}
 use lib.ListN.{drop, length}
 use Rattle.json.proofs.Behind.{here, not-here}
-use Rattle.json.proofs.Bracketed.{Item, Walking, begins, breaks, closes, goes-on, inside, no-item}
+use Rattle.json.proofs.Bracketed.{Item, Walking, begins, breaks, closes, goes-on, no-item}
 use Rattle.json.proofs.Cases.{by-test}
 use Rattle.json.proofs.Nested.{list-value}
 use Rattle.json.proofs.Places.{in-text}
@@ -92,6 +92,11 @@ module _ {B : Type 0} {howMany : ℕ → Bool} {deep : ℕ} {f : Tree deep → O
   gives-too-many h = sym (l .gives)
       ∙ gathers-too-many howMany f had _ (h _ (said-some 0x5D (valueSize deep) (valueSaid deep) text place))
 
+  -- behind a value a comma or the bracket stands
+  pub closed : {next found : ℕ} → Item (valueSize deep) text place next found → (found ≡ 0x2C → ⊥) → found ≡ 0x5D
+  closed {found = found} i h = by-test (eqb found 0x5D) (eqb-true found 0x5D)
+      (λ t. absurd (l .taken (omega (arith, breaks (l .walking) i (eqb-false found 0x5D t) h))))
+
   module _ {y : B} (e : f (valueSaid deep (drop place text)) ≡ some y) {next found : ℕ}
       (i : Item (valueSize deep) text place next found) where
     pub list-on : found ≡ 0x2C → (after : ℕ) → after ≡ next + 1 + blanks (drop (next + 1) text)
@@ -106,19 +111,12 @@ module _ {B : Type 0} {howMany : ℕ → Bool} {deep : ℕ} {f : Tree deep → O
               ∙ l .gives;
         }
 
-    closed : (found ≡ 0x2C → ⊥) → found ≡ 0x5D
-    closed h = by-test (eqb found 0x5D) (eqb-true found 0x5D)
-        (λ t. absurd (l .taken (omega (arith, breaks (l .walking) i (eqb-false found 0x5D t) h))))
-
-    pub ends-within : (found ≡ 0x2C → ⊥) → next < length text
-    ends-within h = inside i (λ z. omega (arith, closed h))
-
     pub list-ends : (found ≡ 0x2C → ⊥) → next + 1 ≡ start + valueSize (suc deep) (drop start text)
-    list-ends h = closes (l .walking) i (closed h)
+    list-ends h = closes (l .walking) i (closed i h)
 
     pub gives-all : (found ≡ 0x2C → ⊥)
         → given howMany deep f text start ≡ provided (howMany (length had + 1)) (had ++ y ∷ [])
     gives-all h =
         sym (l .gives)
-        ∙ ap (outcome howMany f had) (said-last (valueSaid deep) (l .walking) i (closed h))
+        ∙ ap (outcome howMany f had) (said-last (valueSaid deep) (l .walking) i (closed i h))
         ∙ gathers-last howMany f had _ y e

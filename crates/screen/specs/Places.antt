@@ -12,7 +12,7 @@ use Rattle.rules.specs.Screen.{aspectIn, aspectName, first, isThere, membersOf,
 use Rattle.rules.specs.Screen.{orElse, ourNumber, padded, same, stationIn, stationName, trackOf, tracksIn, tracksName}
 use Rattle.rules.specs.Words.{_if_then_}
 use Rattle.rules.specs.declared.Received.{Received}
-use Rattle.rules_json.specs.Grammar.{joined}
+use Rattle.rules_json.specs.Grammar.{digit, joined}
 use Rattle.rules_json.specs.Reader.{scalarSaid, valueSaid, valueSize}
 use Rattle.rules_json.specs.Tree.{Member, Tree}
 use Rattle.screen.specs.declared.tracks.Five.{Five}
@@ -68,6 +68,10 @@ pub record Outermost (text : List ℕ) (at : ℕ) (found : Found) : Type 0 where
 -- the number of ours at the head of a text, and 65536 where there is none
 unfoldable pub numberHere : List ℕ → ℕ
 numberHere s = orElse 65536 (ourNumber 65535 (numberText (scalarSaid s)))
+
+-- whether a number goes on with an octet behind its first digit
+abbrev pub goesOnWith : ℕ → Bool
+goesOnWith b = digit b || eqb b 0x2E || eqb b 0x65 || eqb b 0x45
 
 -- the track at a place, and the place past it: 0 where it is of another form
 unfoldable pub fiveAt : List ℕ → ℕ → Five

@@ -3,7 +3,7 @@ ghost use mathlib.Core.Path.{_≡_};
 ghost use lib.ListN.{drop};
 ghost use Rattle.rules.specs.Screen.{orElse, ourNumber};
 ghost use Rattle.rules_json.specs.Grammar.{digit as isDigit};
-ghost use Rattle.screen.specs.Places.{numberHere};
+ghost use Rattle.screen.specs.Places.{goesOnWith, numberHere};
 
 // Above every number of ours: there is none.
 const NONE: u32 = 65536;
@@ -12,11 +12,23 @@ const NONE: u32 = 65536;
 pub(crate) fn number(text: &[u8], place: usize) -> u32
     ensures { λ r. ⌜ r ≡ numberHere (drop place (now (text .entry))) ⌝ }
 {
-    if !digit(json::octet(text, place)) {
+    let first = json::octet(text, place);
+    if !digit(first) {
         return NONE;
+    }
+    // Most of ours are one digit.
+    if !goes_on(json::octet(text, place + 1)) {
+        return (first - b'0') as u32;
     }
     let past = json::value(text, place, 0);
     number_in(&text[place..past])
+}
+
+// Whether a number goes on with an octet behind its first digit.
+fn goes_on(found: u8) -> bool
+    ensures { λ r. ⌜ r ≡ goesOnWith found ⌝ }
+{
+    digit(found) | (found == b'.') | (found == b'e') | (found == b'E')
 }
 
 // The number of ours that a text of digits stands for, and 65,536 where it is none.

@@ -6,7 +6,6 @@ ghost use Rattle.rules.specs.Screen.{tracksOf};
 ghost use Rattle.rules.specs.Words.{put};
 ghost use Rattle.rules_json.specs.Reader.{valueSaid, valueSize};
 ghost use Rattle.screen.specs.Places.{fiveAt, shownOf};
-use crate::numbers::number;
 use rules::TrackDigits;
 
 // How many tracks, and their digits: none where the value is of another form.
@@ -72,17 +71,20 @@ fn track(text: &[u8], at: usize) -> Five
     let mut digits = [0u8; 5];
     let mut count = 0;
     while count < 5 {
-        let found = number(text, place);
-        if 1 < found {
+        let found = json::octet(text, place);
+        let digit = (found == b'0') | (found == b'1');
+        if !digit {
             return no_track();
         }
-        digits[count] = found as u8;
+        digits[count] = found - b'0';
         count = count + 1;
-        // A number of ours that is 0 or 1 is one octet.
-        let past = place + 1;
-        let behind = json::blanks(text, past);
-        if json::octet(text, behind) != b',' {
-            if count != 5 {
+        // In a text that has been taken, a comma or a bracket stands behind a number: where another octet
+        // stands behind one digit, the number goes on.
+        let behind = json::blanks(text, place + 1);
+        let next = json::octet(text, behind);
+        if next != b',' {
+            let last = (count == 5) & (next == b']');
+            if !last {
                 return no_track();
             }
             return Five {

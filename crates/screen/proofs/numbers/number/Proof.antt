@@ -1,18 +1,23 @@
--- `number`: what begins with a digit is a number, which ends within the text.
+-- `number`: what begins with a digit is a number, which ends within the text; where it does not go on behind the digit,
+-- it is that digit's.
 -- Assumes nothing.
-use Prim.Native.Nat.{ℕ, _≤_}
+use Prim.Native.Nat.{ℕ, _-_, _≤_}
 use mathlib.Core.Bool.{true}
 use mathlib.Core.List.{List}
-use mathlib.Core.Path.{_≡_, ap, sym, _∙_}
+use mathlib.Core.Path.{_≡_, ap, refl, sym, _∙_}
 use native.Mathlib.Omega.{arith}
 use borrow.Author.Needs.{needs}
 use borrow.Author.Tests.{not-false, not-true}
 use lib.ListN.{length}
+use Rattle.json.proofs.Cases.{within-true}
+use Rattle.json.proofs.Places.{taken-in-text}
 use Rattle.rules_json.specs.Grammar.{digit}
 use Rattle.rules_json.specs.Reader.{at}
 use Rattle.screen.proofs.Counting.{number-ends, number-none, number-some}
+use Rattle.screen.proofs.Single.{alone-at, number-at}
 use Rattle.screen.proofs.numbers.number.Statement.{statement}
 use Rattle.screen.proofs.numbers.number.Tie as tie
+use Rattle.screen.specs.Places.{goesOnWith}
 
 octet-requires : tie.Need-octet-requires
 octet-requires c κs = search needs
@@ -26,22 +31,54 @@ returns c =
     number-none (given .text .now) (given .place)
     (ap digit (sym (c .before .before .octet .ensures)) ∙ sym (c .before .digit .ensures) ∙ not-true _ (c .if1 .taken))
 
+module _ (c : tie.Else1) where
+  abbrev start : tie.Start
+  start = c .before .before .before .before
+
+  abbrev lent : List ℕ
+  lent = start .args .text .now
+
+  abbrev here : ℕ
+  here = start .args .place
+
+  is-digit : digit (c .before .before .octet .result) ≡ true
+  is-digit = sym (c .before .digit .ensures) ∙ not-false _ (c .if1 .left)
+
+  begins : digit (at lent here) ≡ true
+  begins = ap digit (sym (c .before .before .octet .ensures)) ∙ is-digit
+
+add-octet : tie.Need-add-octet
+add-octet c = omega (arith, start c .good, taken-in-text (lent c) (here c) digit _ refl refl (begins c))
+
+octet-requires-2 : tie.Need-octet-requires-2
+octet-requires-2 c κs = search needs
+
+goes-on-requires : tie.Need-goes-on-requires
+goes-on-requires c κs = search needs
+
+sub-result : tie.Need-sub-result
+sub-result c = within-true 0x30 0x39 _ (is-digit (c .before .before .before)) .0
+
+cast-result : tie.Need-cast-result
+cast-result c = search needs
+
+returns-2 : tie.Need-returns-2
+returns-2 c =
+    let first = c .before .before .before in
+    let ends = ap goesOnWith (sym (c .before .before .octet2 .ensures)) ∙ sym (c .before .goes-on .ensures)
+    ∙ not-true _ (c .if2 .taken) in
+    ap (λ b. b - 48) (first .before .before .octet .ensures)
+    ∙ sym (number-at (lent first) (here first) (begins first) (alone-at (lent first) (here first) (begins first) ends))
+
 value-requires : tie.Need-value-requires
 value-requires c κs = search needs
 
 module _ (c : tie.After-value) where
-  abbrev lent : List ℕ
-  lent = c .before .before .before .before .before .args .text .now
+  abbrev first : tie.Else1
+  first = c .before .before .before .before
 
-  abbrev here : ℕ
-  here = c .before .before .before .before .before .args .place
-
-  begins : digit (at lent here) ≡ true
-  begins = ap digit (sym (c .before .before .before .octet .ensures)) ∙ sym (c .before .before .digit .ensures)
-      ∙ not-false _ (c .before .if1 .left)
-
-  ends : (here ≤ c .value .result) × (c .value .result ≤ length lent)
-  ends = number-ends lent here begins (c .value .result) (c .value .ensures)
+  ends : (here first ≤ c .value .result) × (c .value .result ≤ length (lent first))
+  ends = number-ends (lent first) (here first) (begins first) (c .value .result) (c .value .ensures)
 
 sub-number-in : tie.Need-sub-number-in
 sub-number-in c = ends c .0
@@ -55,11 +92,12 @@ part-number-in-end c = omega (arith, ends c)
 number-in-requires : tie.Need-number-in-requires
 number-in-requires c κs = search needs
 
-returns-2 : tie.Need-returns-2
-returns-2 c =
+returns-3 : tie.Need-returns-3
+returns-3 c =
     let called = c .before .before in
     c .number-in .ensures
-    ∙ number-some (lent called) (here called) (begins called) (called .value .result) (called .value .ensures)
+    ∙ number-some (lent (first called)) (here (first called)) (begins (first called)) (called .value .result)
+    (called .value .ensures)
 
 pub number-spec : {M : Type 1} → statement M
 number-spec =
@@ -68,9 +106,15 @@ number-spec =
     octet-requires
     digit-requires
     returns
+    add-octet
+    octet-requires-2
+    goes-on-requires
+    sub-result
+    cast-result
+    returns-2
     value-requires
     sub-number-in
     part-number-in-start
     part-number-in-end
     number-in-requires
-    returns-2)
+    returns-3)

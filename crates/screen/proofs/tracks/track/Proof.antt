@@ -1,26 +1,28 @@
 -- `track`: before each turn the digits so far are gathered, and what is left gives the others.
 -- Assumes nothing.
-use Prim.Native.Nat.{_+_, _-_}
+use Prim.Native.Nat.{_-_}
 use mathlib.Core.Path.{sym, _∙_}
 use native.Mathlib.Omega.{arith}
 use borrow.Author.Needs.{needs}
+use borrow.Author.Tests.{not-false, not-true}
 use Rattle.json.proofs.Places.{in-text}
 use Rattle.rules_json.specs.Reader.{at}
 use Rattle.screen.proofs.Digits.{
   DigitRead,
   Digits,
   all-digits,
+  bracket,
   digit-on,
-  digits-within,
-  fewer-digits,
   first-digit,
+  next-within,
   no-digits,
   no-five,
+  not-last,
   other-digit,
   other-form,
   too-many-digits,
+  zero-or-one,
 }
-use Rattle.screen.proofs.Single.{single-size, single-within}
 use Rattle.screen.proofs.tracks.track.Statement.{statement}
 use Rattle.screen.proofs.tracks.track.Tie as tie
 
@@ -76,8 +78,8 @@ loop-holds c =
     (opened .before .blanks .ensures) (opened .octet2 .ensures) (c .if2 .left)
     (opened .before .before .before .before .before .pre)
 
-number-requires : tie.Need-number-requires Inv-loop μ-loop
-number-requires c κs = search needs
+octet-requires-3 : tie.Need-octet-requires-3 Inv-loop μ-loop
+octet-requires-3 c κs = search needs
 
 no-track-requires-3 : tie.Need-no-track-requires-3 Inv-loop μ-loop
 no-track-requires-3 c κs = search needs
@@ -87,11 +89,11 @@ returns-3 c =
     let turn = c .before .before .before .before in
     let given = turn .before .before .before .before .before .before .before .args in
     no-five (given .text .now) (given .at)
-    (other-digit (turn .loop .inv) _ (c .before .before .number .ensures) (c .before .if3 .taken))
+    (other-digit (turn .loop .inv) _ (c .before .before .octet3 .ensures) (not-true _ (c .before .if3 .taken)))
     (c .no-track3 .ensures)
 
-cast-digits : tie.Need-cast-digits Inv-loop μ-loop
-cast-digits c = search needs
+sub-digits : tie.Need-sub-digits Inv-loop μ-loop
+sub-digits c = zero-or-one (c .before .octet3 .result) (not-false _ (c .if3 .left)) .0
 
 array-write-digits : tie.Need-array-write-digits Inv-loop μ-loop
 array-write-digits c = search needs
@@ -99,23 +101,24 @@ array-write-digits c = search needs
 add-count : tie.Need-add-count Inv-loop μ-loop
 add-count c = search needs
 
-add-past : tie.Need-add-past Inv-loop μ-loop
-add-past c =
-    let given = c .before .before .before .before .before .before .before .before .before .before in
+add-blanks-2 : tie.Need-add-blanks-2 Inv-loop μ-loop
+add-blanks-2 c =
+    let turn = c .before .before .before in
+    let given = turn .before .before .before .before .before .before .before in
+    let (least, most) = zero-or-one (c .before .octet3 .result) (not-false _ (c .if3 .left)) in
     omega (
       arith,
       given .good,
-      single-within (given .args .text .now) (c .before .before .before .loop .place)
-          (omega (arith, c .before .number .ensures, c .if3 .left)),
+      in-text (given .args .text .now) (turn .loop .place) (λ e. omega (arith, c .before .octet3 .ensures)),
     )
 
 blanks-requires-2 : tie.Need-blanks-requires-2 Inv-loop μ-loop
 blanks-requires-2 c κs = search needs
 
-octet-requires-3 : tie.Need-octet-requires-3 Inv-loop μ-loop
-octet-requires-3 c κs = search needs
+octet-requires-4 : tie.Need-octet-requires-4 Inv-loop μ-loop
+octet-requires-4 c κs = search needs
 
-module _ (c : tie.After-octet3 Inv-loop μ-loop) where
+module _ (c : tie.After-octet4 Inv-loop μ-loop) where
   abbrev turn : tie.In-loop Inv-loop μ-loop
   turn = c .before .before .before .before
 
@@ -123,18 +126,16 @@ module _ (c : tie.After-octet3 Inv-loop μ-loop) where
   start = turn .before .before .before .before .before .before .before .before
 
   read : DigitRead (start .args .text .now) (start .args .at) (turn .before .loop .place) (turn .before .loop .digits)
-      (turn .before .loop .count) (c .before .before .before .number .result) (c .before .blanks2 .result)
-      (c .octet3 .result)
+      (turn .before .loop .count) (c .before .before .before .octet3 .result) (c .before .blanks2 .result)
+      (c .octet4 .result)
   read =
       record {
         so-far = turn .before .loop .inv;
-        number = c .before .before .before .number .ensures;
-        small = c .before .before .if3 .left;
+        found-is = c .before .before .before .octet3 .ensures;
+        small = not-false _ (c .before .before .if3 .left);
         less = turn .loop-test .taken;
-        past = turn .before .loop .place + 1;
-        size = single-size (start .args .text .now) (turn .before .loop .place) (omega arith);
         skips = c .before .blanks2 .ensures;
-        octet-is = c .octet3 .ensures;
+        octet-is = c .octet4 .ensures;
       }
 
 no-track-requires-4 : tie.Need-no-track-requires-4 Inv-loop μ-loop
@@ -144,23 +145,19 @@ returns-4 : tie.Need-returns-4 Inv-loop μ-loop
 returns-4 c =
     let last = c .before .before .before in
     no-five (start last .args .text .now) (start last .args .at)
-    (fewer-digits (read last) (c .before .before .if4 .taken) (c .before .if5 .taken)) (c .no-track4 .ensures)
+    (not-last (read last) (c .before .before .if4 .taken) (not-true _ (c .before .if5 .taken))) (c .no-track4 .ensures)
 
-add-t17 : tie.Need-add-t17 Inv-loop μ-loop
-add-t17 c = omega (arith, digits-within (read (c .before .before)) (c .before .if4 .taken))
+add-t22 : tie.Need-add-t22 Inv-loop μ-loop
+add-t22 c =
+    let last = read (c .before .before) in
+    omega (arith, next-within last (λ z. omega (arith, bracket last (not-false _ (c .if5 .left)))))
 
 returns-5 : tie.Need-returns-5 Inv-loop μ-loop
-returns-5 c = all-digits (read (c .before .before)) (c .before .if4 .taken) (c .if5 .left)
+returns-5 c = all-digits (read (c .before .before)) (not-false _ (c .if5 .left))
 
-add-blanks-2 : tie.Need-add-blanks-2 Inv-loop μ-loop
-add-blanks-2 c =
-    let given = start (c .before) in
-    omega (
-      arith,
-      given .good,
-      in-text (given .args .text .now) (c .before .before .blanks2 .result)
-          (λ e. omega (arith, c .before .octet3 .ensures, c .if4 .left)),
-    )
+add-blanks-3 : tie.Need-add-blanks-3 Inv-loop μ-loop
+add-blanks-3 c =
+    omega (arith, start (c .before) .good, next-within (read (c .before)) (λ z. omega (arith, c .if4 .left)))
 
 blanks-requires-3 : tie.Need-blanks-requires-3 Inv-loop μ-loop
 blanks-requires-3 c κs = search needs
@@ -196,20 +193,20 @@ track-spec =
     no-track-requires-2
     returns-2
     loop-holds
-    number-requires
+    octet-requires-3
     no-track-requires-3
     returns-3
-    cast-digits
+    sub-digits
     array-write-digits
     add-count
-    add-past
+    add-blanks-2
     blanks-requires-2
-    octet-requires-3
+    octet-requires-4
     no-track-requires-4
     returns-4
-    add-t17
+    add-t22
     returns-5
-    add-blanks-2
+    add-blanks-3
     blanks-requires-3
     loop-less
     loop-again
