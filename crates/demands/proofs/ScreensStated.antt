@@ -10,7 +10,7 @@ use Rattle.demands.proofs.Exactly.{below, exactly, group, in-words, isn
 use Rattle.demands.proofs.ScreensExactly.{lacks}
 use Rattle.demands.proofs.ScreensRead.{said, takes, whole}
 use Rattle.demands.specs.Exactly.{GivenExactly, otherwise, _when_then_}
-use Rattle.demands.specs.Screens.{Lacking, Says, Taken}
+use Rattle.demands.specs.Screens.{Lacking, Says, Readable}
 use Rattle.demands.specs.Stated.{ofReceiving, ofWriting}
 use Rattle.rules.specs.Screen.{isTaken, membersOf, messageFits, ours, readingAnswer, received, writingAnswer, written, writtenOf}
 use Rattle.rules.specs.declared.Message.{Message}
@@ -22,10 +22,10 @@ stated-writing m b = exactly (group (16 on isnt (messageFits m) ∷ 12 on below 
     refl
 
 module _ (s : List ℕ) where
-  not-taken : isTaken s ≡ false → Taken s → ⊥
+  not-taken : isTaken s ≡ false → Readable s → ⊥
   not-taken e t = true≢false (sym (takes s .1 t) ∙ e)
 
-  is-taken : (Taken s → ⊥) → isTaken s ≡ false
+  is-taken : (Readable s → ⊥) → isTaken s ≡ false
   is-taken h = go (isTaken s) refl
     where
       go : (t : Bool) → isTaken s ≡ t → isTaken s ≡ false
@@ -33,7 +33,7 @@ module _ (s : List ℕ) where
       go false e = e
 
   -- 16, as the definition tests it
-  tested : GivenExactly (15 when (Taken s → ⊥) then 16 when whole (ours s) ≡ false then otherwise 0)
+  tested : GivenExactly (15 when (Readable s → ⊥) then 16 when whole (ours s) ≡ false then otherwise 0)
       (received s .answer)
   unfolding received readingAnswer
   tested = exactly (group (15 on in-words (isnt (isTaken s)) not-taken is-taken ∷ 16 on isnt (whole (ours s)) ∷ []))
@@ -49,14 +49,14 @@ module _ (s : List ℕ) where
   of-words : Short → whole (ours s) ≡ false
   of-words (x, t, l) = same-whole x t ∙ lacks x s t .1 l
 
-  surely : ((Taken s → ⊥) → ⊥) → Taken s
+  surely : ((Readable s → ⊥) → ⊥) → Readable s
   surely h = go (isTaken s) refl
     where
-      go : (t : Bool) → isTaken s ≡ t → Taken s
+      go : (t : Bool) → isTaken s ≡ t → Readable s
       go true q = takes s .0 q
       go false q = absurd (h (not-taken q))
 
-  in-words-of : ((Taken s → ⊥) → ⊥) → whole (ours s) ≡ false → Short
+  in-words-of : ((Readable s → ⊥) → ⊥) → whole (ours s) ≡ false → Short
   in-words-of h e = let (x, t) = surely h in (x, t, lacks x s t .0 (sym (same-whole x t) ∙ e))
 
   pub stated-receiving : GivenExactly (ofReceiving s) (received s .answer)

@@ -22,8 +22,8 @@ use Rattle.rules_json.specs.Tree.{Member, Tree, Value, array, number, object, s
 abbrev pub Says : Tree 8 → List ℕ → Type 0
 Says x s = Text 8 x s × (length s ≤ 4096)
 
-abbrev pub Taken : List ℕ → Type 0
-Taken s = (x : Tree 8) × Says x s
+abbrev pub Readable : List ℕ → Type 0
+Readable s = (x : Tree 8) × Says x s
 
 -- ---- "members `station` (0 to 65535), `aspect` (0 to 5) and `tracks`, a list of one to four lists of five digits (0 occupied, 1 free)"
 
@@ -107,7 +107,7 @@ Fits m = (messageFits m ≡ true) × (length (m .digits) ≡ 20)
 
 pub record Reads : Type 0 where
   -- "our reader takes" such texts, and no others; what it reads is what they say, of which there is one
-  pub takes : (s : List ℕ) → isTaken s ≡ true ↔ Taken s
+  pub takes : (s : List ℕ) → isTaken s ≡ true ↔ Readable s
   pub reads : (s : List ℕ) (x : Tree 8) → Says x s → textSaid 8 s ≡ x
   pub saysOne : (s : List ℕ) (x y : Tree 8) → Says x s → Says y s → x ≡ y
   -- "and gives back the first of each of ours": a message exactly where they are that message

@@ -8,7 +8,7 @@ use mathlib.Core.Bool.{Bool, true, false, _&&_}
 use mathlib.Core.List.{List}
 use lib.ListN.{length}
 use Rattle.demands.specs.Exactly.{Cases, GivenExactly, otherwise, _when_then_}
-use Rattle.demands.specs.Screens.{Lacking, Says, Taken}
+use Rattle.demands.specs.Screens.{Lacking, Says, Readable}
 use Rattle.rules.specs.Answers.{already, answerOf, namesHead, namesIsland, taken, wrongFields}
 use Rattle.rules.specs.Kinds.{kindOf}
 use Rattle.rules.specs.Layout.{entries, entryAt, hasMark, settingsIn, versionIn}
@@ -137,7 +137,7 @@ ofStepping b k =
 -- "15 not RFC 8259 text, too long or too deep; 16 one of our members missing, of another form or outside its range; in that order"
 abbrev pub ofReceiving : List ℕ → Cases
 ofReceiving s =
-    15 when (Taken s → ⊥) then
+    15 when (Readable s → ⊥) then
     16 when ((x : Tree 8) × Says x s × Lacking (membersOf x)) then
     otherwise 0
 
