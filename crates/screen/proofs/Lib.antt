@@ -1,11 +1,14 @@
+pub mod Beyond
 pub mod Counting
 pub mod Digits
 pub mod Finding
 pub mod FourTracks
 pub mod Gathering
 pub mod Given
+pub mod Hexadecimal
 pub mod Items
 pub mod Lengths
+pub mod Letters
 pub mod Listed
 pub mod Messages
 pub mod Ranges

@@ -13,7 +13,7 @@ use Rattle.json.proofs.Nested.{member, no-name, no-value, object-value}
 use Rattle.json.proofs.Places.{in-text, text-behind}
 use Rattle.rules.specs.Screen.{membersOf}
 use Rattle.rules_json.specs.Reader.{at, blanks, bracketedSaid, memberSaid, memberSize, nameSize, scalarSaid}
-use Rattle.rules_json.specs.Reader.{stringUnits, valueSaid, valueSize}
+use Rattle.rules_json.specs.Reader.{stringSize, stringUnits, valueSaid, valueSize}
 use Rattle.rules_json.specs.Tree.{Member, Tree, array, object, scalar}
 use Rattle.screen.proofs.Finding.{AllFinding, all-done, all-none, all-on}
 use Rattle.screen.proofs.Items.{said-begins, said-last, said-none, said-on, saidFrom}
@@ -106,6 +106,16 @@ module _ (text : List ℕ) (start : ℕ) where
             (in-text text start (λ z. omega arith)) p o refl h)
             (all-none text members e);
       }
+
+-- a name begins with its string
+string-first : (s : List ℕ) → stringSize s ≡ 0 → nameSize s ≡ 0
+unfolding nameSize
+string-first s e = rw e
+
+pub string-there : (text : List ℕ) {place value : ℕ} → value ≡ place + nameSize (drop place text)
+    → (value ≡ place → ⊥) → stringSize (take (length text - place) (drop place text)) ≡ 0 → ⊥
+string-there text {place} v named e =
+    named (omega (arith, string-first (drop place text) (ap stringSize (sym (part-behind text place)) ∙ e)))
 
 module _ {text : List ℕ} {start place : ℕ} {ours : OurPlaces} (d : Seeking text start place ours) where
   pub members-over : length text ≤ place → start ≡ start + whole text start

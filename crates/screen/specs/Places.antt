@@ -1,7 +1,7 @@
 -- Places in a text that has been read, where a value of ours begins. Place 0 stands for none: the outermost object
 -- begins there or later, and a value later still.
 use Prim.Native.Nat.{ℕ, _+_}
-use mathlib.Core.Bool.{Bool, cond, false, not, true, _&&_, _||_}
+use mathlib.Core.Bool.{Bool, cond, not, true, _&&_, _||_}
 use mathlib.Core.List.{List, []}
 use mathlib.Core.Option.{Option, none, some}
 use mathlib.Core.Path.{_≡_}
@@ -19,11 +19,6 @@ use Rattle.screen.specs.declared.tracks.Five.{Five}
 use Rattle.screen.specs.declared.members.Found.{Found}
 use Rattle.screen.specs.declared.members.OurPlaces.{OurPlaces}
 use Rattle.screen.specs.declared.tracks.Shown.{Shown}
-
--- a test tells whether something holds
-abbrev pub Tells : Bool → Type 0 → Type 0
-Tells true P = P
-Tells false P = P → ⊥
 
 -- the value at a place
 unfoldable pub placed : List ℕ → ℕ → Option (Tree 7)

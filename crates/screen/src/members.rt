@@ -1,6 +1,6 @@
 // One pass over the outermost object, which remembers where our values begin.
 ghost use mathlib.Core.Path.{_≡_};
-ghost use Rattle.rules_json.specs.Reader.{at as octetAt, stringUnits};
+ghost use Rattle.rules_json.specs.Reader.{at as octetAt, stringSize, stringUnits};
 ghost use Rattle.screen.specs.Places.{Outermost, withMember};
 use crate::names::first_of;
 
@@ -69,6 +69,7 @@ fn members(text: &[u8], at: usize) -> Found
 
 // After one more member: the string at the head is its name, and its value begins at a place.
 fn with_member(ours: OurPlaces, head: &[u8], value: usize) -> OurPlaces
+    requires { ⌜ (stringSize (now head) ≡ 0 → ⊥) ⌝ }
     ensures { λ r. ⌜ r ≡ withMember ours (stringUnits (now (head .entry))) value ⌝ }
 {
     OurPlaces {

@@ -17,6 +17,7 @@ use Rattle.screen.proofs.Seeking.{
   object-begins,
   object-empty,
   object-ends,
+  string-there,
   valueless,
 }
 use Rattle.screen.proofs.members.members.Statement.{statement}
@@ -113,7 +114,9 @@ part-with-member-end : tie.Need-part-with-member-end Inv-loop μ-loop
 part-with-member-end c = search needs
 
 with-member-requires : tie.Need-with-member-requires Inv-loop μ-loop
-with-member-requires c κs = search needs
+with-member-requires c κs =
+    let valued = c .before .before in
+    string-there _ (valued .before .before .member-name .ensures) (valued .before .if2 .left)
 
 blanks-requires-2 : tie.Need-blanks-requires-2 Inv-loop μ-loop
 blanks-requires-2 c κs = search needs

@@ -4,7 +4,7 @@ use Prim.Native.Nat.{_-_}
 use native.Mathlib.Omega.{arith}
 use borrow.Author.Needs.{needs}
 use lib.ListN.{length}
-use Rattle.screen.proofs.Saying.{Saying, plain-letter, says-begins, says-nothing, says-on, says-other, says-over}
+use Rattle.screen.proofs.Saying.{Saying, letter-of, says-begins, says-on, says-other, says-over}
 use Rattle.screen.proofs.names.says.Statement.{statement}
 use Rattle.screen.proofs.names.says.Tie as tie
 
@@ -14,45 +14,37 @@ Inv-loop head word place₀ letter₀ place letter = Saying head word place lett
 abbrev μ-loop : tie.MeasureT-loop
 μ-loop head word place₀ letter₀ place letter = length word - letter
 
-returns : tie.Need-returns Inv-loop μ-loop
-returns c = says-nothing _ _ (c .if1 .taken)
-
 loop-holds : tie.Need-loop-holds Inv-loop μ-loop
-loop-holds c = says-begins _ _ (c .if1 .left)
+loop-holds c = says-begins _ _ (c .before .before .pre .0)
 
-sub-rest : tie.Need-sub-rest Inv-loop μ-loop
-sub-rest c = search needs
+sub-letter-size : tie.Need-sub-letter-size Inv-loop μ-loop
+sub-letter-size c = search needs
 
-part-rest-start : tie.Need-part-rest-start Inv-loop μ-loop
-part-rest-start c = search needs
+part-letter-size-start : tie.Need-part-letter-size-start Inv-loop μ-loop
+part-letter-size-start c = search needs
 
-part-rest-end : tie.Need-part-rest-end Inv-loop μ-loop
-part-rest-end c = search needs
+part-letter-size-end : tie.Need-part-letter-size-end Inv-loop μ-loop
+part-letter-size-end c = search needs
 
-shared-slice-read-is-letter : tie.Need-shared-slice-read-is-letter Inv-loop μ-loop
-shared-slice-read-is-letter c = search needs
+shared-slice-read-letter-size : tie.Need-shared-slice-read-letter-size Inv-loop μ-loop
+shared-slice-read-letter-size c = search needs
 
-is-letter-requires : tie.Need-is-letter-requires Inv-loop μ-loop
-is-letter-requires c κs =
+letter-size-requires : tie.Need-letter-size-requires Inv-loop μ-loop
+letter-size-requires c κs =
     let turn = c .before .before in
-    let start = turn .before .before .before .before .before in
-    plain-letter (start .args .word .now) (turn .before .loop .letter) (start .pre) (turn .loop-test .taken)
+    let start = turn .before .before .before .before in
+    letter-of (start .args .word .now) (turn .before .loop .letter) (start .pre .1) (turn .loop-test .taken)
 
-returns-2 : tie.Need-returns-2 Inv-loop μ-loop
-returns-2 c =
+returns : tie.Need-returns Inv-loop μ-loop
+returns c =
     let turn = c .before .before .before .before in
-    says-other (turn .before .loop .inv) (turn .before .before .before .before .before .pre) (turn .loop-test .taken)
-    (c .before .is-letter .result) (c .before .is-letter .ensures) (c .if2 .taken)
-
-character-requires : tie.Need-character-requires Inv-loop μ-loop
-character-requires c κs = search needs
+    says-other (turn .before .loop .inv) (turn .loop-test .taken) (c .before .letter-size .ensures)
+    (turn .before .before .before .before .pre .1) (c .if1 .taken)
 
 loop-again : tie.Need-loop-again Inv-loop μ-loop
 loop-again c =
-    let turn = c .before .before .before .before .before in
-    says-on (turn .before .loop .inv) (turn .before .before .before .before .before .pre) (turn .loop-test .taken)
-    (c .before .before .is-letter .result) (c .before .before .is-letter .ensures) (c .before .if2 .left) _
-    (c .character .ensures)
+    let turn = c .before .before .before .before in
+    says-on (turn .before .loop .inv) (turn .loop-test .taken) (c .before .letter-size .ensures) (c .if1 .left)
 
 add-place : tie.Need-add-place Inv-loop μ-loop
 add-place c = omega (arith, loop-again c .within-head)
@@ -63,20 +55,11 @@ add-letter c = search needs
 loop-less : tie.Need-loop-less Inv-loop μ-loop
 loop-less c = search needs
 
-sub-character : tie.Need-sub-character Inv-loop μ-loop
-sub-character c = search needs
+octet-requires : tie.Need-octet-requires Inv-loop μ-loop
+octet-requires c κs = search needs
 
-part-character-start : tie.Need-part-character-start Inv-loop μ-loop
-part-character-start c = search needs
-
-part-character-end : tie.Need-part-character-end Inv-loop μ-loop
-part-character-end c = search needs
-
-character-requires-2 : tie.Need-character-requires-2 Inv-loop μ-loop
-character-requires-2 c κs = search needs
-
-returns-3 : tie.Need-returns-3 Inv-loop μ-loop
-returns-3 c = says-over (c .before .before .before .loop .inv) (omega arith) _ (c .character2 .ensures)
+returns-2 : tie.Need-returns-2 Inv-loop μ-loop
+returns-2 c = says-over (c .before .before .loop .inv) (omega arith) _ (c .octet .ensures)
 
 pub says-spec : {M : Type 1} → statement M
 says-spec =
@@ -84,21 +67,16 @@ says-spec =
     (tie.spec
     Inv-loop
     μ-loop
-    returns
     loop-holds
-    sub-rest
-    part-rest-start
-    part-rest-end
-    shared-slice-read-is-letter
-    is-letter-requires
-    returns-2
-    character-requires
+    sub-letter-size
+    part-letter-size-start
+    part-letter-size-end
+    shared-slice-read-letter-size
+    letter-size-requires
+    returns
     add-place
     add-letter
     loop-less
     loop-again
-    sub-character
-    part-character-start
-    part-character-end
-    character-requires-2
-    returns-3)
+    octet-requires
+    returns-2)
