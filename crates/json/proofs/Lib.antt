@@ -4,7 +4,6 @@ pub mod Leading
 pub mod Further
 pub mod NumberSizes
 pub mod CharacterSizes
-pub mod Decoded
 pub mod Spelt
 pub mod Behind
 pub mod Turning
