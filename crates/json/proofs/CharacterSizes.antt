@@ -23,7 +23,7 @@ module _ (s : List ℕ) (first : ℕ) (e : first ≡ at s 0) where
       (cond three (cond (second (at s 0) (at s 1) && tail (at s 2)) 3 0)
       (cond four (cond (second (at s 0) (at s 1) && tail (at s 2) && tail (at s 3)) 4 0) 0)))
 
-  pub chosen : {a b c d : Bool} → ltb first 0x80 ≡ a → within 0xC2 0xDF first ≡ b → within 0xE0 0xEF first ≡ c
+  chosen : {a b c d : Bool} → ltb first 0x80 ≡ a → within 0xC2 0xDF first ≡ b → within 0xE0 0xEF first ≡ c
       → within 0xF0 0xF4 first ≡ d → choose a b c d ≡ utf8Size s
   unfolding utf8Size
   chosen ha hb hc hd =
@@ -81,7 +81,8 @@ module _ (s : List ℕ) (letter : ℕ) (e : letter ≡ at s 1) where
 
   pub too-short : letter ≡ 0x75 → length s < 6 → 0 ≡ escapeSize s
   too-short h l =
-      sym (ap (λ t. cond t 6 0) (cut (hexdig (at s 2) && hexdig (at s 3) && hexdig (at s 4)))) ∙ escape-is (eq-eqb _ _ h)
+      sym (ap (λ t. cond t 6 0) (cut (hexdig (at s 2) && hexdig (at s 3) && hexdig (at s 4))))
+      ∙ escape-is (eq-eqb _ _ h)
     where
       cut : (t : Bool) → t && hexdig (at s 5) ≡ false
       cut t = ap (λ b. t && hexdig b) (List·getD-eq-default s 0 (omega arith)) ∙ and-false t
@@ -91,10 +92,11 @@ module _ (s : List ℕ) (letter : ℕ) (e : letter ≡ at s 1) where
   long-escape h a b c d r er ea eb ec ed =
       er ∙ (λ i. cond (ea i && eb i && ec i && ed i) 6 0) ∙ escape-is (eq-eqb _ _ h)
 
-  pub short-escape : (letter ≡ 0x75 → ⊥) → (x : ℕ) → x ≡ escaped letter → (r : ℕ) → r ≡ cond (not (eqb x 0)) 2 0
+  pub short-escape : (letter ≡ 0x75 → ⊥) → (t : Bool) → t ≡ not (eqb (escaped letter) 0) → (r : ℕ) → r ≡ cond t 2 0
       → r ≡ escapeSize s
-  short-escape h x ex r er =
-      er ∙ turned (eqb x 0) ∙ ap (λ n. cond (eqb n 0) 0 2) (ex ∙ ap escaped e) ∙ escape-is (ne-eqb _ _ h)
+  short-escape h t et r er =
+      er ∙ (λ i. cond (et i) 2 0) ∙ turned (eqb (escaped letter) 0) ∙ ap (λ b. cond (eqb (escaped b) 0) 0 2) e
+      ∙ escape-is (ne-eqb _ _ h)
     where
       turned : (t : Bool) → cond {A = ℕ} (not t) 2 0 ≡ cond t 0 2
       turned true = refl

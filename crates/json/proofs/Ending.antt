@@ -42,7 +42,7 @@ module _ (step : List ℕ → Step) (text : List ℕ) (start : ℕ) where
   abbrev pub ending : ℕ → ℕ
   ending place = finish start place (through step (drop place text))
 
-  pub moved : (place n m : ℕ) → m ≡ further n (through step (drop n (drop place text)))
+  moved : (place n m : ℕ) → m ≡ further n (through step (drop n (drop place text)))
       → finish start place m ≡ ending (place + n)
   moved place n m e =
       ap (finish start place) e

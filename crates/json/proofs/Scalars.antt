@@ -2,27 +2,15 @@
 -- Assumes nothing.
 use mathlib.Core.Path.{_≡_, refl, sym, ap, _∙_}
 use mathlib.Core.Bool.{Bool, cond, false, true}
-use mathlib.Core.List.{List, [], _∷_}
+use mathlib.Core.List.{List}
 use Prim.Native.Nat.{ℕ, _+_, _≤_}
 use native.Mathlib.Omega.{arith}
-use borrow.Author.Tests.{le-leb, lt-leb, ne-eqb}
+use borrow.Author.Tests.{ne-eqb}
 use lib.Dec.{eqb}
 use lib.ListN.{drop, length}
 use Rattle.rules_json.specs.Abnf.{octets}
-use Rattle.rules_json.specs.Reader.{at, digits, intSize, numberSize, scalarSize, spells, stringSize, wordSize}
+use Rattle.rules_json.specs.Reader.{at, numberSize, scalarSize, spells, stringSize, wordSize}
 use Rattle.json.proofs.Places.{first-behind}
-
--- no number begins with an octet beyond the digits
-no-number : (s : List ℕ) → 0x61 ≤ at s 0 → numberSize s ≡ 0
-unfolding numberSize intSize digits
-no-number [] h = refl
-no-number (b ∷ s) h =
-    rw (
-      ne-eqb b 0x2D (λ e. omega arith),
-      ne-eqb b 0x30 (λ e. omega arith),
-      le-leb 0x30 b (omega arith),
-      lt-leb b 0x39 (omega arith),
-    )
 
 abbrev pub scalarBy : ℕ → List ℕ → ℕ
 scalarBy b s =
@@ -37,18 +25,12 @@ unfolding scalarSize
 scalar-read text place first b r e h q =
     q ∙ ap (λ k. place + scalarBy k (drop place text)) (sym h ∙ e ∙ sym (first-behind text place))
 
-module _ (text : List ℕ) (place first : ℕ) (e : first ≡ at text place) (f : first ≡ 0x66 → ⊥) (n : first ≡ 0x6E → ⊥)
-    (t : first ≡ 0x74 → ⊥) where
-  pub number-read : (first ≡ 0x22 → ⊥) → (r : ℕ) → r ≡ place + numberSize (drop place text)
-      → r ≡ place + scalarSize (drop place text)
-  number-read quote r q =
-      scalar-read text place first first r e refl
-      (rw (ne-eqb first 0x22 quote, ne-eqb first 0x66 f, ne-eqb first 0x6E n, ne-eqb first 0x74 t) q)
-
-  pub no-number-read : 0x61 ≤ first → place ≡ place + scalarSize (drop place text)
-  no-number-read beyond =
-      number-read (λ z. omega arith) place
-      (omega (arith, no-number (drop place text) (omega (arith, e, first-behind text place))))
+pub number-read : (text : List ℕ) (place first r : ℕ) → first ≡ at text place
+    → (first ≡ 0x22 → ⊥) → (first ≡ 0x66 → ⊥) → (first ≡ 0x6E → ⊥) → (first ≡ 0x74 → ⊥)
+    → r ≡ place + numberSize (drop place text) → r ≡ place + scalarSize (drop place text)
+number-read text place first r e quote f n t q =
+    scalar-read text place first first r e refl
+    (rw (ne-eqb first 0x22 quote, ne-eqb first 0x66 f, ne-eqb first 0x6E n, ne-eqb first 0x74 t) q)
 
 pub word-short : (word s : List ℕ) → wordSize word s ≤ length word
 word-short word s = either (spells word 0 s)

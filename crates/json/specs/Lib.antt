@@ -1,2 +1,2 @@
--- What is found behind blanks
-pub mod Skipping
+-- What stands behind blanks
+pub mod Blanks

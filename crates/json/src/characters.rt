@@ -1,8 +1,9 @@
-// Section 7: a character of a string, in UTF-8 or behind an escape. Each function here is given the
-// text from the character on, and tells its size: 0 where there is none.
-ghost use mathlib.Core.Bool.{cond};
+// Section 7: a character of a string, in UTF-8 or behind an escape. What is given the text from the
+// character on tells its size: 0 where there is none.
+ghost use mathlib.Core.Bool.{cond, not};
 ghost use mathlib.Core.Path.{_≡_};
-ghost use Rattle.rules_json.specs.Grammar.{escaped as escapedBy, hexdig};
+ghost use lib.Dec.{eqb};
+ghost use Rattle.rules_json.specs.Grammar.{escaped, hexdig};
 ghost use Rattle.rules_json.specs.Reader.{charSize, escapeSize, second as mayBeSecond, tail as isTail, utf8Size};
 use crate::octets::octet;
 
@@ -27,7 +28,7 @@ fn escape(head: &[u8]) -> usize
 {
     let letter = octet(head, 1);
     if letter == b'u' {
-        // Asked once for the four octets below.
+        // So that the four octets below need no test of their own.
         if head.len() < 6 {
             return 0;
         }
@@ -37,23 +38,23 @@ fn escape(head: &[u8]) -> usize
             & hex(octet(head, 5));
         return size_if(four, 6);
     }
-    size_if(escaped(letter) != 0, 2)
+    size_if(is_escaped(letter), 2)
 }
 
-// The character that a letter stands for behind an escape, and 0 where it stands for none.
-fn escaped(letter: u8) -> u8
-    ensures { λ r. ⌜ r ≡ escapedBy letter ⌝ }
+// Whether a letter stands for a character behind an escape.
+fn is_escaped(letter: u8) -> bool
+    ensures { λ r. ⌜ r ≡ not (eqb (escaped letter) 0) ⌝ }
 {
     match letter {
-        b'"' => b'"',
-        b'\\' => b'\\',
-        b'/' => b'/',
-        b'b' => 0x08,
-        b'f' => 0x0C,
-        b'n' => 0x0A,
-        b'r' => 0x0D,
-        b't' => 0x09,
-        _ => 0,
+        b'"' => true,
+        b'\\' => true,
+        b'/' => true,
+        b'b' => true,
+        b'f' => true,
+        b'n' => true,
+        b'r' => true,
+        b't' => true,
+        _ => false,
     }
 }
 

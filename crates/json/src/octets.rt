@@ -2,7 +2,7 @@
 ghost use mathlib.Core.Path.{_≡_};
 ghost use Prim.Native.Nat.{_+_};
 ghost use lib.ListN.{drop};
-ghost use Rattle.json.specs.Skipping.{Skips};
+ghost use Rattle.json.specs.Blanks.{PastBlanks};
 ghost use Rattle.rules_json.specs.Reader.{at, blanks as blanksAtHead, digits as digitsAtHead};
 
 // An octet and its place.
@@ -26,9 +26,9 @@ pub fn blanks(text: &[u8], place: usize) -> usize
     next.place
 }
 
-// The same, with the octet that stands there: it has been looked at already.
+// The same, with the octet that stands there: 0 at the end of the text.
 pub(crate) fn past_blanks(text: &[u8], place: usize) -> Next
-    ensures { λ r. ⌜ Skips (now (text .entry)) place r ⌝ }
+    ensures { λ r. ⌜ PastBlanks (now (text .entry)) place r ⌝ }
 {
     let mut past = place;
     while past < text.len() {

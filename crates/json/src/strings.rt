@@ -8,7 +8,8 @@ use crate::octets::blanks;
 use crate::octets::octet;
 use crate::octets::past_blanks;
 
-// How many octets the string at the head has, which begins with its quotation mark: 0 where it does not end.
+// How many octets the string at the head has, which begins with its quotation mark: 0 where there is
+// none. (That they stand in the text follows; it is said so that a caller's sum needs no proof.)
 pub(crate) fn string(head: &[u8]) -> usize
     requires { ⌜ octetAt (now head) 0 ≡ 0x22 ⌝ }
     ensures { λ r. ⌜ r ≡ stringSize (now (head .entry)) ⌝ }

@@ -17,7 +17,7 @@ pub fn value(text: &[u8], at: usize, deep: u8) -> usize
     value_from(text, at, octet(text, at), deep)
 }
 
-// The same, by the octet at its place.
+// The same, where the octet at the place is known.
 fn value_from(text: &[u8], at: usize, first: u8, deep: u8) -> usize
     requires { ⌜ first ≡ octetAt (now text) at ⌝ }
     ensures { λ r. ⌜ r ≡ at + valueSize deep (drop at (now (text .entry))) ⌝ }
@@ -101,18 +101,6 @@ fn scalar(text: &[u8], at: usize, first: u8) -> usize
     if first == b'"' {
         return at + string(&text[at..]);
     }
-    if b'a' <= first {
-        return letters(text, at, first);
-    }
-    number(text, at)
-}
-
-// Past false, null or true, where an octet from a on stands at the place: no number begins with one.
-fn letters(text: &[u8], at: usize, first: u8) -> usize
-    requires { ⌜ first ≡ octetAt (now text) at ⌝ }
-    requires { ⌜ 0x61 ≤ first ⌝ }
-    ensures { λ r. ⌜ r ≡ at + scalarSize (drop at (now (text .entry))) ⌝ }
-{
     if first == b'f' {
         return literal(text, at, b"false");
     }
@@ -122,7 +110,7 @@ fn letters(text: &[u8], at: usize, first: u8) -> usize
     if first == b't' {
         return literal(text, at, b"true");
     }
-    at
+    number(text, at)
 }
 
 // Past a word, where it stands at a place.

@@ -41,8 +41,8 @@ size-if-requires c κs = search needs
 returns-2 : tie.Need-returns-2
 returns-2 c = search (long-escape, hex-at)
 
-escaped-requires : tie.Need-escaped-requires
-escaped-requires c κs = search needs
+is-escaped-requires : tie.Need-is-escaped-requires
+is-escaped-requires c κs = search needs
 
 size-if-requires-2 : tie.Need-size-if-requires-2
 size-if-requires-2 c κs = search needs
@@ -66,6 +66,6 @@ escape-spec =
     hex-requires-4
     size-if-requires
     returns-2
-    escaped-requires
+    is-escaped-requires
     size-if-requires-2
     returns-3)

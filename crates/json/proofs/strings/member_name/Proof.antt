@@ -5,12 +5,12 @@ use mathlib.Core.Path.{_≡_, ap, refl, sym, _∙_}
 use Prim.Native.Nat.{ℕ, _+_, _≤_, _<_}
 use native.Mathlib.Omega.{arith}
 use borrow.Author.Needs.{needs}
-use lib.ListN.{drop, length, length-drop}
-use Rattle.json.proofs.Behind.{part-behind}
+use lib.ListN.{drop, length}
+use Rattle.json.proofs.Behind.{part-behind, part-first, part-length}
 use Rattle.json.proofs.Named.{name-taken, no-separator-named, no-string-named}
-use Rattle.json.proofs.Places.{first-behind, in-text}
+use Rattle.json.proofs.Places.{in-text}
 use Rattle.json.proofs.Quoted.{no-string}
-use Rattle.rules_json.specs.Reader.{at, stringSize}
+use Rattle.rules_json.specs.Reader.{stringSize}
 use Rattle.json.proofs.strings.member_name.Statement.{statement}
 use Rattle.json.proofs.strings.member_name.Tie as tie
 
@@ -40,8 +40,7 @@ part-string-end c = search needs
 string-requires : tie.Need-string-requires
 string-requires c κs =
     let given = c .before .before .before .before .args in
-    ap (λ l. at l 0) (part-behind (given .text .now) (given .at))
-    ∙ first-behind (given .text .now) (given .at) ∙ sym (c .before .before .octet .ensures) ∙ c .before .if1 .left
+    part-first (given .text .now) (given .at) ∙ sym (c .before .before .octet .ensures) ∙ c .before .if1 .left
 
 module _ (c : tie.After-string) where
   abbrev given : tie.Start
@@ -57,13 +56,12 @@ module _ (c : tie.After-string) where
   past = ap (place +_) (c .string .ensures .0 ∙ ap stringSize (part-behind lent place))
 
   past-within : place + c .string .result ≤ length lent
-  past-within =
-      omega (arith, within (c .before .before), c .string .ensures .1, ap length (part-behind lent place), length-drop place lent)
+  past-within = omega (arith, within (c .before .before), c .string .ensures .1, part-length lent place)
 
 returns-2 : tie.Need-returns-2
 returns-2 c =
-    no-string-named (lent (c .before)) (place (c .before)) (place (c .before)) (omega (arith, past (c .before), c .if2 .taken))
-    refl
+    let read = c .before in
+    no-string-named (lent read) (place read) (place read) (omega (arith, past read, c .if2 .taken)) refl
 
 add-past-blanks : tie.Need-add-past-blanks
 add-past-blanks c = omega (arith, past-within (c .before), given (c .before) .good)

@@ -4,11 +4,11 @@ use mathlib.Core.Path.{ap, sym, _∙_}
 use Prim.Native.Nat.{_+_, _<_}
 use native.Mathlib.Omega.{arith}
 use borrow.Author.Needs.{needs}
-use lib.ListN.{length, length-drop}
-use Rattle.json.proofs.Behind.{part-behind}
-use Rattle.json.proofs.Places.{first-behind, in-text}
+use lib.ListN.{length}
+use Rattle.json.proofs.Behind.{part-behind, part-first, part-length}
+use Rattle.json.proofs.Places.{in-text}
 use Rattle.json.proofs.Scalars.{number-read, scalar-read}
-use Rattle.rules_json.specs.Reader.{at, stringSize}
+use Rattle.rules_json.specs.Reader.{stringSize}
 use Rattle.json.proofs.values.scalar.Statement.{statement}
 use Rattle.json.proofs.values.scalar.Tie as tie
 
@@ -29,8 +29,7 @@ part-string-end c = search needs
 string-requires : tie.Need-string-requires
 string-requires c κs =
     let given = c .before .before .before in
-    ap (λ l. at l 0) (part-behind (given .args .text .now) (given .args .at))
-    ∙ first-behind (given .args .text .now) (given .args .at) ∙ sym (given .pre) ∙ c .before .if1 .taken
+    part-first (given .args .text .now) (given .args .at) ∙ sym (given .pre) ∙ c .before .if1 .taken
 
 add-result : tie.Need-add-result
 add-result c =
@@ -40,30 +39,61 @@ add-result c =
       given .good,
       within (c .before .before),
       c .string .ensures .1,
-      ap length (part-behind (given .args .text .now) (given .args .at)),
-      length-drop (given .args .at) (given .args .text .now),
+      part-length (given .args .text .now) (given .args .at),
     )
 
 returns : tie.Need-returns
 returns c =
     let given = c .before .before .before .before in
+    let whole = part-behind (given .args .text .now) (given .args .at) in
     scalar-read (given .args .text .now) (given .args .at) _ 0x22 _ (given .pre) (c .before .before .if1 .taken)
-    (ap (given .args .at +_) (c .string .ensures .0 ∙ ap stringSize (part-behind (given .args .text .now) (given .args .at))))
+    (ap (given .args .at +_) (c .string .ensures .0 ∙ ap stringSize whole))
 
-letters-requires : tie.Need-letters-requires
-letters-requires c κs = search needs
+slice-aggregate-literal : tie.Need-slice-aggregate-literal
+slice-aggregate-literal c = search needs
+
+literal-requires : tie.Need-literal-requires
+literal-requires c κs =
+    let given = c .before .before .before .before .args in
+    (in-text (given .text .now) (given .at) (λ e. omega arith), omega arith)
 
 returns-2 : tie.Need-returns-2
-returns-2 c = search needs
+returns-2 c =
+    scalar-read _ _ _ 0x66 _ (c .before .before .before .before .before .pre) (c .before .before .if2 .taken) (c .literal .ensures)
+
+slice-aggregate-literal-2 : tie.Need-slice-aggregate-literal-2
+slice-aggregate-literal-2 c = search needs
+
+literal-requires-2 : tie.Need-literal-requires-2
+literal-requires-2 c κs =
+    let given = c .before .before .before .before .before .args in
+    (in-text (given .text .now) (given .at) (λ e. omega arith), omega arith)
+
+returns-3 : tie.Need-returns-3
+returns-3 c =
+    scalar-read _ _ _ 0x6E _ (c .before .before .before .before .before .before .pre) (c .before .before .if3 .taken) (c .literal2 .ensures)
+
+slice-aggregate-literal-3 : tie.Need-slice-aggregate-literal-3
+slice-aggregate-literal-3 c = search needs
+
+literal-requires-3 : tie.Need-literal-requires-3
+literal-requires-3 c κs =
+    let given = c .before .before .before .before .before .before .args in
+    (in-text (given .text .now) (given .at) (λ e. omega arith), omega arith)
+
+returns-4 : tie.Need-returns-4
+returns-4 c =
+    scalar-read _ _ _ 0x74 _ (c .before .before .before .before .before .before .before .pre) (c .before .before .if4 .taken) (c .literal3 .ensures)
 
 number-requires : tie.Need-number-requires
 number-requires c κs = search needs
 
-returns-3 : tie.Need-returns-3
-returns-3 c =
-    let given = c .before .before .before .before in
-    number-read (given .args .text .now) (given .args .at) (given .args .first) (given .pre) (λ e. omega arith)
-    (λ e. omega arith) (λ e. omega arith) (c .before .before .if1 .left) _ (c .number .ensures)
+returns-5 : tie.Need-returns-5
+returns-5 c =
+    let no-letter = c .before .before .before in
+    number-read _ _ _ _ (no-letter .before .before .before .pre)
+    (no-letter .before .if1 .left) (no-letter .if2 .left) (c .before .before .if3 .left)
+    (c .before .if4 .left) (c .number .ensures)
 
 pub scalar-spec : {M : Type 1} → statement M
 scalar-spec =
@@ -75,7 +105,14 @@ scalar-spec =
     string-requires
     add-result
     returns
-    letters-requires
+    slice-aggregate-literal
+    literal-requires
     returns-2
+    slice-aggregate-literal-2
+    literal-requires-2
+    returns-3
+    slice-aggregate-literal-3
+    literal-requires-3
+    returns-4
     number-requires
-    returns-3)
+    returns-5)

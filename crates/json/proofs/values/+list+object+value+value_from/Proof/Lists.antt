@@ -1,7 +1,7 @@
 -- `list`: item by item, where an item is a value.
 -- Assumes nothing.
 use mathlib.Core.Path.{_≡_, refl, sym, _∙_}
-use Prim.Native.Nat.{ℕ, _-_}
+use Prim.Native.Nat.{ℕ, _-_, _<_}
 use native.Mathlib.Omega.{arith}
 use borrow.Author.Needs.{needs}
 use lib.ListN.{drop, length}
@@ -92,6 +92,11 @@ module _ (t : ℕ) where
       → list-lts.Start (calls t) (list-at t) list.Post Inv left
   given c = loop c .before .before .before .before .before .before
 
+  -- there is an octet at the item's place
+  tested : (c : list-lts.After-past-blanks2 (calls t) (list-at t) list.Post Inv left)
+      → loop c .loop .item .place < length (given c .args .text .now)
+  tested c = c .before .before .before .before .if3 .taken
+
   pub item : (c : list-lts.After-past-blanks2 (calls t) (list-at t) list.Post Inv left)
       → Item (valueSize (given c .args .deep - 1)) (given c .args .text .now) (loop c .loop .item .place)
       (c .past-blanks2 .result .place) (c .past-blanks2 .result .octet)
@@ -137,8 +142,7 @@ module _ (t : ℕ) where
         arith,
         item (turn c),
         c .past-blanks3 .ensures .place,
-        loop (turn c) .loop,
-        c .before .before .before .before .before .before .before .before .before .before .if3 .taken,
+        tested (turn c),
       )
 
   pub loop-again : list-lts.Need-loop-again (calls t) (list-at t) list.Post Inv left
