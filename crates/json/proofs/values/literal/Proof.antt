@@ -32,7 +32,8 @@ add-result c =
 returns : tie.Need-returns
 returns c =
     let given = c .before .before .before .before .args in
-    ap (given .at +_) (c .word .ensures ∙ ap (wordSize (given .spelt .now)) (part-behind (given .text .now) (given .at)))
+    let whole = part-behind (given .text .now) (given .at) in
+    ap (given .at +_) (c .word .ensures ∙ ap (wordSize (given .spelt .now)) whole)
 
 pub literal-spec : {M : Type 1} → statement M
 literal-spec =

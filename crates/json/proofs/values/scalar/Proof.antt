@@ -59,7 +59,8 @@ literal-requires c κs =
 
 returns-2 : tie.Need-returns-2
 returns-2 c =
-    scalar-read _ _ _ 0x66 _ (c .before .before .before .before .before .pre) (c .before .before .if2 .taken) (c .literal .ensures)
+    let given = c .before .before .before .before .before in
+    scalar-read _ _ _ 0x66 _ (given .pre) (c .before .before .if2 .taken) (c .literal .ensures)
 
 slice-aggregate-literal-2 : tie.Need-slice-aggregate-literal-2
 slice-aggregate-literal-2 c = search needs
@@ -71,7 +72,8 @@ literal-requires-2 c κs =
 
 returns-3 : tie.Need-returns-3
 returns-3 c =
-    scalar-read _ _ _ 0x6E _ (c .before .before .before .before .before .before .pre) (c .before .before .if3 .taken) (c .literal2 .ensures)
+    let given = c .before .before .before .before .before .before in
+    scalar-read _ _ _ 0x6E _ (given .pre) (c .before .before .if3 .taken) (c .literal2 .ensures)
 
 slice-aggregate-literal-3 : tie.Need-slice-aggregate-literal-3
 slice-aggregate-literal-3 c = search needs
@@ -83,7 +85,8 @@ literal-requires-3 c κs =
 
 returns-4 : tie.Need-returns-4
 returns-4 c =
-    scalar-read _ _ _ 0x74 _ (c .before .before .before .before .before .before .before .pre) (c .before .before .if4 .taken) (c .literal3 .ensures)
+    let given = c .before .before .before .before .before .before .before in
+    scalar-read _ _ _ 0x74 _ (given .pre) (c .before .before .if4 .taken) (c .literal3 .ensures)
 
 number-requires : tie.Need-number-requires
 number-requires c κs = search needs
