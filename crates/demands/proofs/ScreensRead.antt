@@ -10,7 +10,7 @@ use borrow.Author.Tests.{eqb-true, le-leb, leb-true}
 use lib.Dec.{eqb, leb}
 use lib.ListN.{length}
 use Rattle.chains.proofs.Chains.{both, where-refused}
-use Rattle.demands.specs.Screens.{Members, Says, Readable, isOurs, named, onlyOurs}
+use Rattle.demands.specs.Screens.{Members, Readable, Says, isOurs, named, onlyOurs}
 use Rattle.json_exact.proofs.Text.{complete, sound}
 use Rattle.rules.specs.Screen.{andThen, aspectIn, aspectName, first, isTaken, isThere, membersOf, messageIn, noMessage, numberOf, orElse, ours, padded, readingAnswer, received, same, stationIn, stationName, tracksIn, tracksName, tracksOf}
 use Rattle.rules.specs.Words.{_if_then_}

@@ -10,7 +10,7 @@ use Rattle.demands.proofs.Exactly.{below, exactly, group, in-words, isn
 use Rattle.demands.proofs.ScreensExactly.{lacks}
 use Rattle.demands.proofs.ScreensRead.{said, takes, whole}
 use Rattle.demands.specs.Exactly.{GivenExactly, otherwise, _when_then_}
-use Rattle.demands.specs.Screens.{Lacking, Says, Readable}
+use Rattle.demands.specs.Screens.{Lacking, Readable, Says}
 use Rattle.demands.specs.Stated.{ofReceiving, ofWriting}
 use Rattle.rules.specs.Screen.{isTaken, membersOf, messageFits, ours, readingAnswer, received, writingAnswer, written, writtenOf}
 use Rattle.rules.specs.declared.Message.{Message}

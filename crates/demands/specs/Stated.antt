@@ -8,7 +8,7 @@ use mathlib.Core.Bool.{Bool, true, false, _&&_}
 use mathlib.Core.List.{List}
 use lib.ListN.{length}
 use Rattle.demands.specs.Exactly.{Cases, GivenExactly, otherwise, _when_then_}
-use Rattle.demands.specs.Screens.{Lacking, Says, Readable}
+use Rattle.demands.specs.Screens.{Lacking, Readable, Says}
 use Rattle.rules.specs.Answers.{already, answerOf, namesHead, namesIsland, taken, wrongFields}
 use Rattle.rules.specs.Kinds.{kindOf}
 use Rattle.rules.specs.Layout.{entries, entryAt, hasMark, settingsIn, versionIn}
