@@ -3,17 +3,18 @@
 use Prim.Native.Nat.{ℕ, _+_, _-_, _/_, _%_, _≤_, _<_}
 use mathlib.Core.Bool.{Bool, cond, false, true, _&&_, _||_}
 use mathlib.Core.List.{List, [], _∷_}
+use mathlib.Core.Logic.{⊎-elim}
 use mathlib.Core.Path.{_≡_, ap, refl, sym, _∙_}
 use native.Mathlib.Omega.{arith}
 use borrow.Author.Tests.{eq-eqb, eqb-false, eqb-true, le-ltb, lt-ltb, ltb-false, ltb-true, ne-eqb}
 use lib.Dec.{eqb, leb→le, ltb}
 use lib.ListN.{length}
 use Rattle.json.proofs.Cases.{both, by-test, good-if, within-true}
+use Rattle.json_exact.proofs.Utf8.{utf8-sound}
 use Rattle.rules.specs.Screen.{same}
 use Rattle.rules_json.specs.Grammar.{escaped}
 use Rattle.rules_json.specs.Reader.{at, charSize, charUnits, decoded, escapeSize, utf8Size}
 use Rattle.rules_json.specs.Utf8.{utf16}
-use Rattle.screen.proofs.Beyond.{character-beyond}
 use Rattle.screen.proofs.Hexadecimal.{Said, areDigits, four-said, number, said-four}
 use Rattle.screen.specs.Letters.{isLetter, letterSize}
 
@@ -143,9 +144,9 @@ module _ (b : ℕ) (letter : isLetter b ≡ true) (s : List ℕ) where
     unfolding charSize
     encoded-there n z = n (rw (ne-eqb (at s 0) 0x5C h, z) (none-either (ltb (at s 0) 0x20 || eqb (at s 0) 0x22)))
 
-    small-decoded : at s 0 < 0x80 → decoded s ≡ at s 0
-    unfolding decoded
-    small-decoded l = rw (lt-ltb (at s 0) 0x80 l)
+    some-octet : (charSize s ≡ 0 → ⊥) → at s 0 ≡ 0 → ⊥
+    unfolding charSize
+    some-octet n z = n (rw z)
 
     pub other-there : (at s 0 ≡ b → ⊥) → 0 ≡ letterSize b s
     other-there o = other-size s b (λ e. never (there s b e))
@@ -153,9 +154,9 @@ module _ (b : ℕ) (letter : isLetter b ≡ true) (s : List ℕ) where
         never : (charSize s ≡ 0 → ⊥) × (unitsThere s ≡ b ∷ []) → ⊥
         never (n, e) =
             let said : decoded s ≡ b = alone (coded (decoded s)) (rw (ne-eqb (at s 0) 0x5C h) at e) in
-            by-test (ltb (at s 0) 0x80)
-            (λ t. o (sym (small-decoded (ltb-true (at s 0) 0x80 t)) ∙ said))
-            (λ t. omega (arith, most, character-beyond s (ltb-false (at s 0) 0x80 t) (encoded-there n)))
+            let some = some-octet n in
+            ⊎-elim (λ plain. o (sym plain ∙ said)) (λ beyond. omega (arith, most))
+            (utf8-sound s (omega arith) (encoded-there n) .far)
 
   module _ (e : at s 0 ≡ 0x5C) where
     escape-size : charSize s ≡ escapeSize s
