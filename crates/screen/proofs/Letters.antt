@@ -10,12 +10,13 @@ use borrow.Author.Tests.{eq-eqb, eqb-false, eqb-true, le-ltb, lt-ltb, ltb-false,
 use lib.Dec.{eqb, leb→le, ltb}
 use lib.ListN.{length}
 use Rattle.json.proofs.Cases.{both, by-test, good-if, within-true}
+use Rattle.json.proofs.CharacterSizes.{four}
 use Rattle.json_exact.proofs.Utf8.{utf8-sound}
 use Rattle.rules.specs.Screen.{same}
 use Rattle.rules_json.specs.Grammar.{escaped}
 use Rattle.rules_json.specs.Reader.{at, charSize, charUnits, decoded, escapeSize, utf8Size}
 use Rattle.rules_json.specs.Utf8.{utf16}
-use Rattle.screen.proofs.Hexadecimal.{Said, areDigits, four-said, number, said-four}
+use Rattle.screen.proofs.Hexadecimal.{Said, four-said, number, said-four}
 use Rattle.screen.specs.Letters.{isLetter, letterSize}
 
 -- ---- one code unit
@@ -163,7 +164,7 @@ module _ (b : ℕ) (letter : isLetter b ≡ true) (s : List ℕ) where
     unfolding charSize
     escape-size = rw e
 
-    long-size : at s 1 ≡ 0x75 → charSize s ≡ cond (areDigits s) 6 0
+    long-size : at s 1 ≡ 0x75 → charSize s ≡ cond (four s) 6 0
     unfolding escapeSize
     long-size u = escape-size ∙ rw (eq-eqb (at s 1) 0x75 u)
 
@@ -178,7 +179,7 @@ module _ (b : ℕ) (letter : isLetter b ≡ true) (s : List ℕ) where
             let u = eqb-true (at s 1) 0x75 t in
             let number-is : number s ≡ b = only (rw t at said) in
             o u
-            (four-said b s (omega (arith, most)) (good-if (areDigits s) 6 (λ z. n (long-size u ∙ z))) number-is))
+            (four-said b s (omega (arith, most)) (good-if (four s) 6 (λ z. n (long-size u ∙ z))) number-is))
             (λ t.
             let letter-is : escaped (at s 1) ≡ b = only (rw t at said) in
             omega (arith, least, escaped-small (at s 1)))

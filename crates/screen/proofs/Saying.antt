@@ -1,7 +1,7 @@
 -- Whether a string says a word of letters, letter by letter.
 -- Assumes nothing.
 use Prim.Native.Nat.{ℕ, zero, suc, _+_, _-_, _≤_, _<_}
-use mathlib.Core.Bool.{Bool, cond, false, not, true, _&&_, _||_}
+use mathlib.Core.Bool.{Bool, cond, false, not, or-true, true, _&&_, _||_}
 use mathlib.Core.List.{List, [], _∷_, _++_}
 use mathlib.Core.Path.{_≡_, ap, refl, sym, subst, _∙_}
 use native.Mathlib.Numerals.{add-one}
@@ -66,11 +66,7 @@ step-ends false n h f = ap (λ m. saidAfter (cond (eqb m 0) fails (goesOn m)) f)
 
 quote-ends : (s : List ℕ) → eqb (at s 0) 0x22 ≡ true → charSize s ≡ 0
 unfolding charSize
-quote-ends s e = rw e (either (ltb (at s 0) 0x20) _)
-  where
-    either : (t : Bool) (n : ℕ) → cond (t || true) 0 n ≡ 0
-    either true n = refl
-    either false n = refl
+quote-ends s e = rw (e, or-true)
 
 step-goes : (s : List ℕ) → (charSize s ≡ 0 → ⊥) → stringStep s ≡ goesOn (charSize s)
 step-goes s h =
