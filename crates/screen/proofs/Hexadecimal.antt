@@ -108,7 +108,7 @@ module _ {found b : ℕ} {r : Bool} (n : ℕ) (f : found ≡ b) (e : r ≡ stand
 
 -- ---- four digits that say a number of ASCII
 
--- what stands behind \u: the number of its digits
+-- what the four behind \u say
 abbrev pub number : List ℕ → ℕ
 number s = fourHex (at s 2) (at s 3) (at s 4) (at s 5)
 
