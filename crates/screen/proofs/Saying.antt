@@ -49,9 +49,8 @@ none-from : (s : List ℕ) → charSize s ≡ 0 → unitsFrom s ≡ []
 unfolding unitsFrom
 none-from s h =
     unrolled turning charUnits s (stringStep s) refl
-    ∙ ap (λ (l : List ℕ). charUnits s ++ l)
-    (step-ends (eqb (at s 0) 0x22) (charSize s) h (λ n. told stringStep charUnits (drop n s)))
-    ∙ ap (λ (l : List ℕ). l ++ []) (no-units s h)
+    ∙ (λ i. no-units s h i
+    ++ step-ends (eqb (at s 0) 0x22) (charSize s) h (λ n. told stringStep charUnits (drop n s)) i)
 
 some-from : (s : List ℕ) → (charSize s ≡ 0 → ⊥) → unitsFrom s ≡ charUnits s ++ unitsFrom (drop (charSize s) s)
 unfolding unitsFrom
@@ -102,7 +101,6 @@ letter-of word letter letters h = not-false _ (none-of (λ b. not (isLetter b)) 
 -- What is left of the string says what is left of the word, where the whole does, and the string ends.
 pub record Saying (head word : List ℕ) (place letter : ℕ) : Type 0 where
   pub within-head : place ≤ length head
-  pub within-word : letter ≤ length word
   pub ends : through stringStep (drop place head) ≡ 0 → ⊥
   pub agrees : same (unitsFrom (drop place head)) (drop letter word) ≡ same (stringUnits head) word
 
@@ -111,7 +109,6 @@ unfolding unitsFrom stringSize stringUnits
 says-begins head word h =
     record {
       within-head = omega (arith, some);
-      within-word = omega arith;
       ends =
           λ z. h (ap (λ n. cond (eqb (at head 0) 0x22) (further 1 n) 0)
           (through-enough turning (length head) (drop 1 head) (omega (arith, length-drop 1 head)) ∙ z)
@@ -175,7 +172,6 @@ module _ {head word : List ℕ} {place letter : ℕ} (w : Saying head word place
           ap (λ n. drop (place + n) head) taken ∙ sym (text-behind head place (charSize s)) in
           record {
             within-head = omega (arith, taken, char-within s, length-drop place head, w .within-head);
-            within-word = omega arith;
             ends = λ z. goes-behind s character (w .ends) (ap (through stringStep) (sym behind) ∙ z);
             agrees =
                 (λ i. same (unitsFrom (behind i)) (drop (add-one letter i) word))
