@@ -147,7 +147,7 @@ module _ {text : List ℕ} {start place : ℕ} {ours next-ours : OurPlaces} {nex
   walking : Walking 0x7D (memberSize (valueSize 7)) text start (whole text start) place
   walking = r .so-far .walking
 
-  member-item : Item (memberSize (valueSize 7)) text place next octet
+  pub member-item : Item (memberSize (valueSize 7)) text place next octet
   member-item =
       record {
         past = r .past;
