@@ -1,4 +1,4 @@
--- Our numbers: octet by octet, and where there is none.
+-- Our numbers: octet by octet, up to another most, at the head of a text and at a place.
 -- Assumes nothing.
 use Prim.Native.Nat.{ℕ, zero, suc, _+_, _-_, _*_, _≤_, _<_}
 use mathlib.Core.Bool.{Bool, and-false, cond, false, false≢true, not, true, _&&_, _||_}

@@ -1,4 +1,4 @@
--- Hexadecimal digits of either case, and the number that four of them say.
+-- Hexadecimal digits of either case: each way through `stands_for`, and four of them that say a number of ASCII.
 -- Assumes nothing.
 use Prim.Native.Nat.{ℕ, _+_, _-_, _*_, _/_, _%_, _≤_, _<_}
 use mathlib.Core.Bool.{Bool, cond, false, false≢true, not, true, _&&_, _||_}

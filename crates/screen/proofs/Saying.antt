@@ -3,11 +3,11 @@
 use Prim.Native.Nat.{ℕ, zero, suc, _+_, _-_, _≤_, _<_}
 use mathlib.Core.Bool.{Bool, cond, false, not, or-true, true, _&&_, _||_}
 use mathlib.Core.List.{List, [], _∷_, _++_}
-use mathlib.Core.Path.{_≡_, ap, refl, sym, subst, _∙_}
+use mathlib.Core.Path.{_≡_, ap, refl, sym, _∙_}
 use native.Mathlib.Numerals.{add-one}
 use native.Mathlib.Omega.{arith}
 use borrow.Author.Tests.{eq-eqb, eqb-false, eqb-true, ne-eqb, not-false}
-use lib.Dec.{eqb, eqb·suc-zero, ltb}
+use lib.Dec.{eqb}
 use lib.ListN.{drop, drop-of-length-le, getD, length, length-drop, take}
 use lib.Seq.{drop-cons}
 use Rattle.json.proofs.Behind.{part-behind}
@@ -17,9 +17,8 @@ use Rattle.json.proofs.Quoted.{turning}
 use Rattle.json.proofs.Turning.{through, through-enough, unrolled as run-unrolled}
 use Rattle.rules.specs.Screen.{same}
 use Rattle.rules.specs.Words.{any}
-use Rattle.rules_json.specs.Reader.{at, charSize, charUnits, decoded, fails, further, goesOn, last, saidAfter}
+use Rattle.rules_json.specs.Reader.{at, charSize, charUnits, fails, further, goesOn, last, saidAfter}
 use Rattle.rules_json.specs.Reader.{sizeAfter, stringSize, stringStep, stringUnits}
-use Rattle.rules_json.specs.Utf8.{utf16}
 use Rattle.screen.proofs.Letters.{Coded, itself, no-letter, no-units, none-either, pair, said-letter, units}
 use Rattle.screen.proofs.Telling.{told, told-enough, unrolled}
 use Rattle.screen.proofs.Within.{char-within}
