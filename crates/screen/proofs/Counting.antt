@@ -1,7 +1,7 @@
--- Our numbers: octet by octet, and where there is none.
+-- Our numbers: octet by octet, up to another most, at the head of a text and at a place.
 -- Assumes nothing.
 use Prim.Native.Nat.{ℕ, zero, suc, _+_, _-_, _*_, _≤_, _<_}
-use mathlib.Core.Bool.{Bool, cond, false, false≢true, not, true, _&&_, _||_}
+use mathlib.Core.Bool.{Bool, and-false, cond, false, false≢true, not, true, _&&_, _||_}
 use mathlib.Core.List.{List, [], _∷_}
 use mathlib.Core.Option.{none}
 use mathlib.Core.Path.{_≡_, ap, refl, sym, _∙_}
@@ -35,10 +35,6 @@ pub grows : (n : ℕ) (s : List ℕ) → n ≤ numberAfter n s
 grows n [] = omega arith
 grows n (b ∷ s) = omega (arith, grows (10 * n + (b - 48)) s)
 
-never : (t : Bool) (n : ℕ) → _≡_ {A = ℕ} (orElse 65536 (provided (t && false) n)) 65536
-never true n = refl
-never false n = refl
-
 pub counted-whole : (text : List ℕ) → (length text ≡ 0 → ⊥) → counted 0 text ≡ orElse 65536 (ourNumber 65535 text)
 unfolding counted ourNumber
 counted-whole [] h = absurd (h refl)
@@ -59,9 +55,7 @@ module _ (text : List ℕ) (place n : ℕ) where
   unfolding counted
   counted-great h =
       let rest = drop place text in
-      ap (λ t. orElse 65536 (provided (not (any noDigit rest) && t) (numberAfter n rest)))
-      (lt-leb (numberAfter n rest) 65535 (omega (arith, grows n rest)))
-      ∙ never (not (any noDigit rest)) (numberAfter n rest)
+      rw (lt-leb (numberAfter n rest) 65535 (omega (arith, grows n rest)), and-false)
 
   module _ (within : place < length text) where
     abbrev here : ℕ

@@ -1,13 +1,15 @@
--- Hexadecimal digits of either case, and the number that four of them say.
+-- Hexadecimal digits of either case: each way through `stands_for`, and four of them that say a number of ASCII.
 -- Assumes nothing.
 use Prim.Native.Nat.{ℕ, _+_, _-_, _*_, _/_, _%_, _≤_, _<_}
 use mathlib.Core.Bool.{Bool, cond, false, false≢true, not, true, _&&_, _||_}
 use mathlib.Core.List.{List}
 use mathlib.Core.Path.{_≡_, ap, refl, subst, sym, _∙_}
 use native.Mathlib.Omega.{arith}
-use borrow.Author.Tests.{eq-eqb, eqb-true, le-leb, lt-leb, ne-eqb, not-false, not-true}
-use lib.Dec.{eqb, leb}
+use borrow.Author.Tests.{eq-eqb, eqb-true, ne-eqb, not-false, not-true}
+use lib.Dec.{eqb}
 use Rattle.json.proofs.Cases.{all-four, both, within-true}
+use Rattle.json.proofs.CharacterSizes.{four}
+use Rattle.json_exact.proofs.Octets.{above, in-bounds}
 use Rattle.rules_json.specs.Abnf.{within}
 use Rattle.rules_json.specs.Grammar.{fourHex, hexValue, hexdig}
 use Rattle.rules_json.specs.Reader.{at}
@@ -44,29 +46,13 @@ valued b h =
     by-class false true v f g k h = let (l, m) = g refl in upper (omega arith) (omega arith) (omega arith)
     by-class false false v f g k h = let (l, m) = k h in lower (omega arith) (omega arith) (omega arith)
 
-module _ (least most b : ℕ) where
-  inside : least ≤ b → b ≤ most → within least most b ≡ true
-  inside l m = λ i. le-leb least b l i && le-leb b most m i
-
-  above : most < b → within least most b ≡ false
-  above m = ap (λ t. leb least b && t) (lt-leb b most m) ∙ never (leb least b)
-    where
-      never : (t : Bool) → t && false ≡ false
-      never true = refl
-      never false = refl
-
 stands : {b n : ℕ} → Digit b n → standsFor b n ≡ true
 unfolding standsFor
-stands {b} {n} (numeral m e) = rw (inside 0x30 0x39 b (omega arith) (omega arith)) (eq-eqb (b - 0x30) n (omega arith))
+stands {b} {n} (numeral m e) = rw (in-bounds 0x30 0x39 b (omega arith)) (eq-eqb (b - 0x30) n (omega arith))
 stands {b} {n} (upper l m e) =
-    rw (above 0x30 0x39 b (omega arith), inside 0x41 0x46 b (omega arith) (omega arith))
-    (eq-eqb (b - 0x37) n (omega arith))
+    rw (above 0x30 0x39 b (omega arith), in-bounds 0x41 0x46 b (omega arith)) (eq-eqb (b - 0x37) n (omega arith))
 stands {b} {n} (lower l m e) =
-    rw (
-      above 0x30 0x39 b (omega arith),
-      above 0x41 0x46 b (omega arith),
-      inside 0x61 0x66 b (omega arith) (omega arith),
-    )
+    rw (above 0x30 0x39 b (omega arith), above 0x41 0x46 b (omega arith), in-bounds 0x61 0x66 b (omega arith))
     (eq-eqb (b - 0x57) n (omega arith))
 
 stood : (b n : ℕ) → standsFor b n ≡ true → Digit b n
@@ -122,10 +108,7 @@ module _ {found b : ℕ} {r : Bool} (n : ℕ) (f : found ≡ b) (e : r ≡ stand
 
 -- ---- four digits that say a number of ASCII
 
--- what stands behind \u: whether it is digits, and their number
-abbrev pub areDigits : List ℕ → Bool
-areDigits s = hexdig (at s 2) && hexdig (at s 3) && hexdig (at s 4) && hexdig (at s 5)
-
+-- what the four behind \u say
 abbrev pub number : List ℕ → ℕ
 number s = fourHex (at s 2) (at s 3) (at s 4) (at s 5)
 
@@ -137,7 +120,7 @@ pub record Said (b : ℕ) (s : List ℕ) : Type 0 where
   pub fourth : standsFor (at s 5) (b % 16) ≡ true
 
 module _ (b : ℕ) (s : List ℕ) where
-  pub four-said : b ≤ 0x7F → areDigits s ≡ true → number s ≡ b → Said b s
+  pub four-said : b ≤ 0x7F → four s ≡ true → number s ≡ b → Said b s
   four-said ascii h e =
       let (h2, h3, h4, h5) = all-four (hexdig (at s 2)) (hexdig (at s 3)) (hexdig (at s 4)) (hexdig (at s 5)) h in
       by-value _ _ _ _ (valued _ h2) (valued _ h3) (valued _ h4) (valued _ h5) e
@@ -156,7 +139,7 @@ module _ (b : ℕ) (s : List ℕ) where
             fourth = ap (standsFor (at s 5)) (omega arith) ∙ stands d5;
           }
 
-  pub said-four : Said b s → (areDigits s ≡ true) × (number s ≡ b)
+  pub said-four : Said b s → (four s ≡ true) × (number s ≡ b)
   unfolding standsFor
   said-four d =
       let (h4, v4) = both (hexdig (at s 4)) _ (d .third) in

@@ -1,4 +1,3 @@
-pub mod Beyond
 pub mod Counting
 pub mod Digits
 pub mod Finding

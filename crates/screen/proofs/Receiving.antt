@@ -1,7 +1,7 @@
 -- A text that is taken or refused: what each way through the code gives back.
 -- Assumes nothing.
 use Prim.Native.Nat.{ℕ, _+_, _<_, _≤_}
-use mathlib.Core.Bool.{Bool, cond, false, not, true, _&&_}
+use mathlib.Core.Bool.{Bool, and-false, cond, false, not, true, _&&_}
 use mathlib.Core.List.{List}
 use mathlib.Core.Path.{_≡_, ap, refl, sym, subst, _∙_}
 use native.Mathlib.Omega.{arith}
@@ -79,12 +79,7 @@ module _ (text : List ℕ) where
           pub more-text : (end ≡ length text → ⊥) → {r : Received} → r ≡ record { answer = 15; message = noMessage }
               → r ≡ received text
           more-text h =
-              not-taken (by-size size-is (ap (λ t. not (eqb end 0) && t) (ne-eqb end (length text) h)
-              ∙ either (not (eqb end 0))))
-            where
-              either : (t : Bool) → t && false ≡ false
-              either true = refl
-              either false = refl
+              not-taken (by-size size-is (rw (ne-eqb end (length text) h) (and-false (not (eqb end 0)))))
 
           pub whole-text : end ≡ length text → {r : Received} → r ≡ givenBack (memberAnswer (ours text)) (ours text)
               → r ≡ received text

@@ -1,13 +1,13 @@
 -- Whether a string says a word of letters, letter by letter.
 -- Assumes nothing.
 use Prim.Native.Nat.{ℕ, zero, suc, _+_, _-_, _≤_, _<_}
-use mathlib.Core.Bool.{Bool, cond, false, not, true, _&&_, _||_}
+use mathlib.Core.Bool.{Bool, cond, false, not, or-true, true, _&&_, _||_}
 use mathlib.Core.List.{List, [], _∷_, _++_}
-use mathlib.Core.Path.{_≡_, ap, refl, sym, subst, _∙_}
+use mathlib.Core.Path.{_≡_, ap, refl, sym, _∙_}
 use native.Mathlib.Numerals.{add-one}
 use native.Mathlib.Omega.{arith}
 use borrow.Author.Tests.{eq-eqb, eqb-false, eqb-true, ne-eqb, not-false}
-use lib.Dec.{eqb, eqb·suc-zero, ltb}
+use lib.Dec.{eqb}
 use lib.ListN.{drop, drop-of-length-le, getD, length, length-drop, take}
 use lib.Seq.{drop-cons}
 use Rattle.json.proofs.Behind.{part-behind}
@@ -17,41 +17,12 @@ use Rattle.json.proofs.Quoted.{turning}
 use Rattle.json.proofs.Turning.{through, through-enough, unrolled as run-unrolled}
 use Rattle.rules.specs.Screen.{same}
 use Rattle.rules.specs.Words.{any}
-use Rattle.rules_json.specs.Reader.{at, charSize, charUnits, decoded, fails, further, goesOn, last, saidAfter}
+use Rattle.rules_json.specs.Reader.{at, charSize, charUnits, fails, further, goesOn, last, saidAfter}
 use Rattle.rules_json.specs.Reader.{sizeAfter, stringSize, stringStep, stringUnits}
-use Rattle.rules_json.specs.Utf8.{utf16}
-use Rattle.screen.proofs.Letters.{Coded, coded, itself, no-letter, none-either, pair, said-letter}
+use Rattle.screen.proofs.Letters.{Coded, itself, no-letter, no-units, none-either, pair, said-letter, units}
 use Rattle.screen.proofs.Telling.{told, told-enough, unrolled}
 use Rattle.screen.proofs.Within.{char-within}
 use Rattle.screen.specs.Letters.{isLetter, letterSize}
-
--- ---- the code units of a character of so many octets: none where it has none, one, or two of which the first is
--- beyond ASCII
-
-data Units : ℕ → List ℕ → Type 0 where
-  nothing : Units 0 []
-  one : (n u : ℕ) → Units (suc n) (u ∷ [])
-  two : (n u v : ℕ) → 0x80 ≤ u → Units (suc n) (u ∷ v ∷ [])
-
-units-of-code : (n : ℕ) {c : ℕ} {us : List ℕ} → Coded c us → Units (suc n) us
-units-of-code n {c} itself = one n c
-units-of-code n (pair u v l) = two n u v l
-
-units-by : (n : ℕ) (escapes long : Bool) (a b c : ℕ)
-    → Units n (cond (eqb n 0) [] (cond escapes (cond long (a ∷ []) (b ∷ [])) (utf16 c)))
-units-by zero escapes long a b c = nothing
-units-by (suc n) escapes long a b c =
-    subst (λ t. Units (suc n) (cond t [] (cond escapes (cond long (a ∷ []) (b ∷ [])) (utf16 c)))) (sym (eqb·suc-zero n))
-    (by-kind escapes long)
-  where
-    by-kind : (t u : Bool) → Units (suc n) (cond t (cond u (a ∷ []) (b ∷ [])) (utf16 c))
-    by-kind true true = one n a
-    by-kind true false = one n b
-    by-kind false u = units-of-code n (coded c)
-
-units : (s : List ℕ) → Units (charSize s) (charUnits s)
-unfolding charUnits
-units s = units-by (charSize s) (eqb (at s 0) 0x5C) (eqb (at s 1) 0x75) _ _ (decoded s)
 
 -- ---- what a string says from a text on
 
@@ -66,11 +37,7 @@ step-ends false n h f = ap (λ m. saidAfter (cond (eqb m 0) fails (goesOn m)) f)
 
 quote-ends : (s : List ℕ) → eqb (at s 0) 0x22 ≡ true → charSize s ≡ 0
 unfolding charSize
-quote-ends s e = rw e (either (ltb (at s 0) 0x20) _)
-  where
-    either : (t : Bool) (n : ℕ) → cond (t || true) 0 n ≡ 0
-    either true n = refl
-    either false n = refl
+quote-ends s e = rw (e, or-true)
 
 step-goes : (s : List ℕ) → (charSize s ≡ 0 → ⊥) → stringStep s ≡ goesOn (charSize s)
 step-goes s h =
@@ -78,12 +45,11 @@ step-goes s h =
     (λ e. rw (e, ne-eqb (charSize s) 0 h))
 
 none-from : (s : List ℕ) → charSize s ≡ 0 → unitsFrom s ≡ []
-unfolding unitsFrom charUnits
+unfolding unitsFrom
 none-from s h =
     unrolled turning charUnits s (stringStep s) refl
-    ∙ ap (λ (l : List ℕ). charUnits s ++ l)
-    (step-ends (eqb (at s 0) 0x22) (charSize s) h (λ n. told stringStep charUnits (drop n s)))
-    ∙ rw h
+    ∙ (λ i. no-units s h i
+    ++ step-ends (eqb (at s 0) 0x22) (charSize s) h (λ n. told stringStep charUnits (drop n s)) i)
 
 some-from : (s : List ℕ) → (charSize s ≡ 0 → ⊥) → unitsFrom s ≡ charUnits s ++ unitsFrom (drop (charSize s) s)
 unfolding unitsFrom
@@ -106,17 +72,14 @@ some-character s goes e z =
 
 -- ---- letter by letter
 
-other-unit : (n b : ℕ) (us r w : List ℕ) → Units n us → (n ≡ 0 → ⊥) → b ≤ 0x7F → (us ≡ b ∷ [] → ⊥)
+other-unit : {c b : ℕ} {us : List ℕ} (r w : List ℕ) → Coded c us → b ≤ 0x7F → (us ≡ b ∷ [] → ⊥)
     → same (us ++ r) (b ∷ w) ≡ false
-other-unit n b us r w nothing some most h = absurd (some refl)
-other-unit n b us r w (one m u) some most h =
-    ap (λ t. t && same r w) (ne-eqb u b (λ z. h (ap (λ k. k ∷ []) z)))
-other-unit n b us r w (two m u v l) some most h = ap (λ t. t && same (v ∷ r) w) (ne-eqb u b (λ z. omega arith))
+other-unit {c} {b} r w itself most h = ap (λ t. t && same r w) (ne-eqb c b (λ z. h (ap (λ k. k ∷ []) z)))
+other-unit {c} {b} r w (pair u v l) most h = ap (λ t. t && same (v ∷ r) w) (ne-eqb u b (λ z. omega arith))
 
-more-units : (n : ℕ) (us r : List ℕ) → Units n us → (n ≡ 0 → ⊥) → same (us ++ r) [] ≡ false
-more-units n us r nothing some = absurd (some refl)
-more-units n us r (one m u) some = refl
-more-units n us r (two m u v l) some = refl
+more-units : {c : ℕ} {us : List ℕ} (r : List ℕ) → Coded c us → same (us ++ r) [] ≡ false
+more-units r itself = refl
+more-units r (pair u v l) = refl
 
 none-of : (p : ℕ → Bool) (l : List ℕ) (i : ℕ) → any p l ≡ false → i < length l → p (getD l i 0) ≡ false
 none-of p [] i h less = absurd (omega arith)
@@ -137,7 +100,6 @@ letter-of word letter letters h = not-false _ (none-of (λ b. not (isLetter b)) 
 -- What is left of the string says what is left of the word, where the whole does, and the string ends.
 pub record Saying (head word : List ℕ) (place letter : ℕ) : Type 0 where
   pub within-head : place ≤ length head
-  pub within-word : letter ≤ length word
   pub ends : through stringStep (drop place head) ≡ 0 → ⊥
   pub agrees : same (unitsFrom (drop place head)) (drop letter word) ≡ same (stringUnits head) word
 
@@ -146,7 +108,6 @@ unfolding unitsFrom stringSize stringUnits
 says-begins head word h =
     record {
       within-head = omega (arith, some);
-      within-word = omega arith;
       ends =
           λ z. h (ap (λ n. cond (eqb (at head 0) 0x22) (further 1 n) 0)
           (through-enough turning (length head) (drop 1 head) (omega (arith, length-drop 1 head)) ∙ z)
@@ -174,7 +135,7 @@ module _ {head word : List ℕ} {place letter : ℕ} (w : Saying head word place
           (λ t. t ∙ ap (λ us. same us []) (sym (none-from s (quote-ends s t))))
           (λ t.
           let some = some-character s (w .ends) t in
-          t ∙ sym (more-units (charSize s) (charUnits s) _ (units s) some)
+          t ∙ sym (more-units _ (units s some))
           ∙ ap (λ us. same us []) (sym (some-from s some)))
 
   module _ (h : letter < length word) where
@@ -197,8 +158,7 @@ module _ {head word : List ℕ} {place letter : ℕ} (w : Saying head word place
           (λ t. by-letter (none-from s (eqb-true (charSize s) 0 t)))
           (λ t.
           let some = eqb-false (charSize s) 0 t in
-          sym (other-unit (charSize s) b (charUnits s) _ _ (units s) some (omega (arith, most))
-          (no-letter s b (sym sized ∙ z)))
+          sym (other-unit _ _ (units s some) (omega (arith, most)) (no-letter s b (sym sized ∙ z)))
           ∙ by-letter (some-from s some))
 
       pub says-on : (size ≡ 0 → ⊥) → Saying head word (place + size) (letter + 1)
@@ -211,7 +171,6 @@ module _ {head word : List ℕ} {place letter : ℕ} (w : Saying head word place
           ap (λ n. drop (place + n) head) taken ∙ sym (text-behind head place (charSize s)) in
           record {
             within-head = omega (arith, taken, char-within s, length-drop place head, w .within-head);
-            within-word = omega arith;
             ends = λ z. goes-behind s character (w .ends) (ap (through stringStep) (sym behind) ∙ z);
             agrees =
                 (λ i. same (unitsFrom (behind i)) (drop (add-one letter i) word))

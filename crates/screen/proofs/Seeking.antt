@@ -14,7 +14,7 @@ use Rattle.json.proofs.Places.{in-text, text-behind}
 use Rattle.rules.specs.Screen.{membersOf}
 use Rattle.rules_json.specs.Reader.{at, blanks, bracketedSaid, memberSaid, memberSize, nameSize, scalarSaid}
 use Rattle.rules_json.specs.Reader.{stringSize, stringUnits, valueSaid, valueSize}
-use Rattle.rules_json.specs.Tree.{Member, Tree, array, object, scalar}
+use Rattle.rules_json.specs.Tree.{Member, Tree, array, scalar}
 use Rattle.screen.proofs.Finding.{AllFinding, all-done, all-none, all-on}
 use Rattle.screen.proofs.Items.{said-begins, said-last, said-none, said-on, saidFrom}
 use Rattle.screen.specs.Places.{Outermost, withMember}
@@ -147,7 +147,7 @@ module _ {text : List ℕ} {start place : ℕ} {ours next-ours : OurPlaces} {nex
   walking : Walking 0x7D (memberSize (valueSize 7)) text start (whole text start) place
   walking = r .so-far .walking
 
-  member-item : Item (memberSize (valueSize 7)) text place next octet
+  pub member-item : Item (memberSize (valueSize 7)) text place next octet
   member-item =
       record {
         past = r .past;

@@ -14,7 +14,7 @@ use Rattle.json.proofs.Cases.{by-test, within-true}
 use Rattle.json.proofs.Places.{first-behind, octet-behind}
 use Rattle.rules.specs.Screen.{numberAfter, orElse, ourNumber, provided}
 use Rattle.rules.specs.Words.{any}
-use Rattle.rules_json.specs.Grammar.{blank, digit}
+use Rattle.rules_json.specs.Grammar.{blank, digit, e}
 use Rattle.rules_json.specs.Reader.{at, blanks, digits, expSize, fracSize, intSize, leading, numberSize}
 use Rattle.screen.proofs.Counting.{digit-text, grows, head-digit, no-number, noDigit, other-than}
 use Rattle.screen.proofs.Within.{number-within}
@@ -28,9 +28,9 @@ none-leading class (b ∷ s) h = rw h
 
 -- a whole part of one octet, with neither a fraction nor an exponent behind it
 whole-alone : (b : ℕ) (s : List ℕ) → digit b ≡ true → intSize (b ∷ s) ≡ 1 → eqb (at s 0) 0x2E ≡ false
-    → eqb (at s 0) 0x65 ≡ false → eqb (at s 0) 0x45 ≡ false → numberSize (b ∷ s) ≡ 1
+    → e (at s 0) ≡ false → numberSize (b ∷ s) ≡ 1
 unfolding numberSize fracSize expSize
-whole-alone b s first one point small great = rw (other-than digit b first 0x2D refl, one, point, small, great)
+whole-alone b s first one point exponent = rw (other-than digit b first 0x2D refl, one, point, exponent)
 
 int-alone : (b : ℕ) (s : List ℕ) → digit b ≡ true → digit (at s 0) ≡ false → intSize (b ∷ s) ≡ 1
 unfolding intSize digits
@@ -40,10 +40,9 @@ int-alone b s first h = rw (first, none-leading digit s h) (by-test (eqb b 0x30)
 digit-alone : (s : List ℕ) → digit (at s 0) ≡ true → goesOnWith (at s 1) ≡ false → numberSize s ≡ 1
 digit-alone [] first h = absurd (false≢true first)
 digit-alone (b ∷ s) first h =
-    let (three, great) = neither _ _ h in
-    let (two, small) = neither _ _ three in
+    let (two, exponent) = neither _ (e (at s 0)) h in
     let (other, point) = neither _ _ two in
-    whole-alone b s first (int-alone b s first other) point small great
+    whole-alone b s first (int-alone b s first other) point exponent
 
 -- what stands behind blanks tells it too: none of them makes a number go on
 pub ends-behind : (text : List ℕ) (past next octet : ℕ) → next ≡ past + blanks (drop past text) → octet ≡ at text next
@@ -89,7 +88,7 @@ zero-alone : (c : ℕ) (rest : List ℕ) → digit c ≡ true → numberSize (0x
 unfolding intSize
 zero-alone c rest h =
     let other = other-than digit c h in
-    whole-alone 0x30 (c ∷ rest) refl refl (other 0x2E refl) (other 0x65 refl) (other 0x45 refl)
+    whole-alone 0x30 (c ∷ rest) refl refl (other 0x2E refl) (rw (other 0x65 refl, other 0x45 refl))
 
 -- two octets or more: the second is a digit, and the first a zero
 two-octets : (b c : ℕ) (rest : List ℕ) → digit b ≡ true → orElse 65536 (ourNumber 65535 (b ∷ c ∷ rest)) ≤ 1

@@ -8,6 +8,7 @@ use native.Mathlib.Omega.{arith}
 use borrow.Author.Tests.{ltb-false}
 use lib.Dec.{eqb, ltb}
 use lib.ListN.{drop, length, length-drop}
+use Rattle.chains.proofs.Chains.{neither}
 use Rattle.json.proofs.Cases.{both}
 use Rattle.json.proofs.Further.{cond-some}
 use Rattle.json.proofs.Places.{in-text, taken-in-text}
@@ -105,8 +106,4 @@ pub char-within : (s : List ℕ) → charSize s ≤ length s
 unfolding charSize
 char-within s =
     either-within s (ltb (at s 0) 0x20 || eqb (at s 0) 0x22) 0 _ (λ t. omega arith)
-    (λ t. either-within s (eqb (at s 0) 0x5C) _ _ (λ u. escape-within s) (λ u. utf8-within s (neither _ _ t)))
-  where
-    neither : (p q : Bool) → p || q ≡ false → p ≡ false
-    neither true q h = h
-    neither false q h = refl
+    (λ t. either-within s (eqb (at s 0) 0x5C) _ _ (λ u. escape-within s) (λ u. utf8-within s (neither _ _ t .0)))

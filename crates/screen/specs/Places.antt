@@ -12,7 +12,7 @@ use Rattle.rules.specs.Screen.{aspectIn, aspectName, first, isThere, membersOf,
 use Rattle.rules.specs.Screen.{orElse, ourNumber, padded, same, stationIn, stationName, trackOf, tracksIn, tracksName}
 use Rattle.rules.specs.Words.{_if_then_}
 use Rattle.rules.specs.declared.Received.{Received}
-use Rattle.rules_json.specs.Grammar.{digit, joined}
+use Rattle.rules_json.specs.Grammar.{digit, e, joined}
 use Rattle.rules_json.specs.Reader.{scalarSaid, valueSaid, valueSize}
 use Rattle.rules_json.specs.Tree.{Member, Tree}
 use Rattle.screen.specs.declared.tracks.Five.{Five}
@@ -66,7 +66,7 @@ numberHere s = orElse 65536 (ourNumber 65535 (numberText (scalarSaid s)))
 
 -- whether a number goes on with an octet behind its first digit
 abbrev pub goesOnWith : ℕ → Bool
-goesOnWith b = digit b || eqb b 0x2E || eqb b 0x65 || eqb b 0x45
+goesOnWith b = digit b || eqb b 0x2E || e b
 
 -- the track at a place, and the place past it: 0 where it is of another form
 unfoldable pub fiveAt : List ℕ → ℕ → Five

@@ -16,8 +16,8 @@ pub(crate) fn number(text: &[u8], place: usize) -> u32
     if !digit(first) {
         return NONE;
     }
-    // Most of ours are one digit.
-    if !goes_on(json::octet(text, place + 1)) {
+    // An aspect is one digit, and so are many stations.
+    if !goes_on_with(json::octet(text, place + 1)) {
         return (first - b'0') as u32;
     }
     let past = json::value(text, place, 0);
@@ -25,10 +25,10 @@ pub(crate) fn number(text: &[u8], place: usize) -> u32
 }
 
 // Whether a number goes on with an octet behind its first digit.
-fn goes_on(found: u8) -> bool
+fn goes_on_with(found: u8) -> bool
     ensures { λ r. ⌜ r ≡ goesOnWith found ⌝ }
 {
-    digit(found) | (found == b'.') | (found == b'e') | (found == b'E')
+    digit(found) | (found == b'.') | ((found == b'e') | (found == b'E'))
 }
 
 // The number of ours that a text of digits stands for, and 65,536 where it is none.

@@ -1,15 +1,16 @@
 -- `members`: before each member, where the object ends and what was found are told by what is left.
 -- Assumes nothing.
-use Prim.Native.Nat.{_-_, _<_}
-use mathlib.Core.Path.{_≡_, _∙_}
+use Prim.Native.Nat.{_-_}
 use native.Mathlib.Omega.{arith}
 use borrow.Author.Needs.{needs}
 use lib.ListN.{length}
+use Rattle.json.proofs.Bracketed.{inside}
 use Rattle.json.proofs.Places.{in-text}
 use Rattle.screen.proofs.Seeking.{
   MemberRead,
   Seeking,
   broken,
+  member-item,
   member-on,
   members-over,
   nameless,
@@ -28,6 +29,13 @@ Inv-loop text at place₀ ours₀ place ours = Seeking text at place ours
 
 abbrev μ-loop : tie.MeasureT-loop
 μ-loop text at place₀ ours₀ place ours = length text - place
+
+-- from the loop back to the start
+abbrev opened : tie.At-loop Inv-loop μ-loop → tie.After-octet Inv-loop μ-loop
+opened c = c .before .before .before
+
+abbrev from-loop : tie.At-loop Inv-loop μ-loop → tie.Start Inv-loop μ-loop
+from-loop c = opened c .before .before .before
 
 add-blanks : tie.Need-add-blanks Inv-loop μ-loop
 add-blanks c =
@@ -81,7 +89,7 @@ returns-2 : tie.Need-returns-2 Inv-loop μ-loop
 returns-2 c =
     let named = c .before .before in
     let turn = named .before .before in
-    let given = turn .before .before .before .before .before .before .args in
+    let given = from-loop turn .args in
     no-outermost (given .text .now) (given .at) (c .without-members2 .ensures)
     (nameless (turn .loop .inv) (named .member-name .ensures) (c .before .if2 .taken))
 
@@ -99,7 +107,7 @@ returns-3 c =
     let valued = c .before .before in
     let named = valued .before .before in
     let turn = named .before .before in
-    let given = turn .before .before .before .before .before .before .args in
+    let given = from-loop turn .args in
     no-outermost (given .text .now) (given .at) (c .without-members3 .ensures)
     (valueless (turn .loop .inv) (named .member-name .ensures) (valued .before .if2 .left) (valued .value .ensures)
     (c .before .if3 .taken))
@@ -125,8 +133,11 @@ octet-requires-2 : tie.Need-octet-requires-2 Inv-loop μ-loop
 octet-requires-2 c κs = search needs
 
 module _ (c : tie.After-octet2 Inv-loop μ-loop) where
+  abbrev gathered : tie.After-with-member Inv-loop μ-loop
+  gathered = c .before .before
+
   abbrev valued : tie.After-value Inv-loop μ-loop
-  valued = c .before .before .before .before .before
+  valued = gathered .before .before .before
 
   abbrev named : tie.After-member-name Inv-loop μ-loop
   named = valued .before .before
@@ -135,10 +146,10 @@ module _ (c : tie.After-octet2 Inv-loop μ-loop) where
   turn = named .before .before
 
   abbrev start : tie.Start Inv-loop μ-loop
-  start = turn .before .before .before .before .before .before
+  start = from-loop turn
 
   read : MemberRead (start .args .text .now) (start .args .at) (turn .loop .place) (turn .loop .ours)
-      (c .before .before .with-member .result) (c .before .blanks2 .result) (c .octet2 .result)
+      (gathered .with-member .result) (c .before .blanks2 .result) (c .octet2 .result)
   read =
       record {
         so-far = turn .loop .inv;
@@ -147,18 +158,16 @@ module _ (c : tie.After-octet2 Inv-loop μ-loop) where
         named = valued .before .if2 .left;
         past = valued .value .result;
         value-size = valued .value .ensures;
-        valued = c .before .before .before .before .if3 .left;
-        found = c .before .before .with-member .ensures;
+        valued = gathered .before .before .if3 .left;
+        found = gathered .with-member .ensures;
         skips = c .before .blanks2 .ensures;
         octet-is = c .octet2 .ensures;
       }
 
-  -- an octet that is there stands in the text
-  within : (c .octet2 .result ≡ 0 → ⊥) → c .before .blanks2 .result < length (start .args .text .now)
-  within h = in-text (start .args .text .now) (c .before .blanks2 .result) (λ e. h (c .octet2 .ensures ∙ e))
-
 add-t20 : tie.Need-add-t20 Inv-loop μ-loop
-add-t20 c = omega (arith, start (c .before) .good, within (c .before) (λ e. omega (arith, c .if4 .taken)))
+add-t20 c =
+    let last = c .before in
+    omega (arith, start last .good, inside (member-item (read last)) (λ e. omega (arith, c .if4 .taken)))
 
 returns-4 : tie.Need-returns-4 Inv-loop μ-loop
 returns-4 c = object-ends (read (c .before)) (c .if4 .taken)
@@ -174,7 +183,8 @@ returns-5 c =
 
 add-blanks-2 : tie.Need-add-blanks-2 Inv-loop μ-loop
 add-blanks-2 c =
-    omega (arith, start (c .before .before) .good, within (c .before .before) (λ e. omega (arith, c .if5 .left)))
+    let last = c .before .before in
+    omega (arith, start last .good, inside (member-item (read last)) (λ e. omega (arith, c .if5 .left)))
 
 blanks-requires-3 : tie.Need-blanks-requires-3 Inv-loop μ-loop
 blanks-requires-3 c κs = search needs
@@ -200,7 +210,7 @@ without-members-requires-5 c κs = search needs
 returns-6 : tie.Need-returns-6 Inv-loop μ-loop
 returns-6 c =
     let over = c .before .before in
-    let given = over .before .before .before .before .before .before .args in
+    let given = from-loop over .args in
     no-outermost (given .text .now) (given .at) (c .without-members5 .ensures)
     (members-over (over .loop .inv) (c .before .loop-test .left))
 

@@ -7,12 +7,25 @@ use Rattle.screen.proofs.Letters.{long-escape, other-escape}
 use Rattle.screen.proofs.names.escape_size.Statement.{statement}
 use Rattle.screen.proofs.names.escape_size.Tie as tie
 
+-- from each octet back to the start
+abbrev from-octet : tie.After-octet → tie.Start
+from-octet c = c .before .before
+
+abbrev from-octet2 : tie.After-octet2 → tie.Start
+from-octet2 c = from-octet (c .before .before)
+
+abbrev from-octet3 : tie.After-octet3 → tie.Start
+from-octet3 c = from-octet2 (c .before .before)
+
+abbrev from-octet4 : tie.After-octet4 → tie.Start
+from-octet4 c = from-octet3 (c .before .before)
+
 octet-requires : tie.Need-octet-requires
 octet-requires c κs = search needs
 
 returns : tie.Need-returns
 returns c =
-    let start = c .before .before .before in
+    let start = from-octet (c .before) in
     other-escape _ (start .pre .0) _ (start .pre .1) (λ u d. c .if1 .taken (c .before .octet .ensures ∙ u))
 
 octet-requires-2 : tie.Need-octet-requires-2
@@ -20,7 +33,7 @@ octet-requires-2 c κs = search needs
 
 returns-2 : tie.Need-returns-2
 returns-2 c =
-    let start = c .before .before .before .before .before in
+    let start = from-octet2 (c .before) in
     other-escape _ (start .pre .0) _ (start .pre .1) (λ u d. c .if2 .taken (c .before .octet2 .ensures ∙ d .first))
 
 octet-requires-3 : tie.Need-octet-requires-3
@@ -28,7 +41,7 @@ octet-requires-3 c κs = search needs
 
 returns-3 : tie.Need-returns-3
 returns-3 c =
-    let start = c .before .before .before .before .before .before .before in
+    let start = from-octet3 (c .before) in
     other-escape _ (start .pre .0) _ (start .pre .1) (λ u d. c .if3 .taken (c .before .octet3 .ensures ∙ d .second))
 
 octet-requires-4 : tie.Need-octet-requires-4
@@ -40,7 +53,7 @@ stands-for-requires c κs = search needs
 returns-4 : tie.Need-returns-4
 returns-4 c =
     let third = c .before in
-    let start = third .before .before .before .before .before .before .before .before .before in
+    let start = from-octet4 (third .before) in
     other-escape _ (start .pre .0) _ (start .pre .1)
     (λ u d. not-digit _ (third .before .octet4 .ensures) (third .stands-for .ensures) (c .if4 .taken) (d .third))
 
@@ -54,7 +67,7 @@ returns-5 : tie.Need-returns-5
 returns-5 c =
     let fourth = c .before in
     let third = fourth .before .before .before in
-    let start = third .before .before .before .before .before .before .before .before .before in
+    let start = from-octet4 (third .before) in
     other-escape _ (start .pre .0) _ (start .pre .1)
     (λ u d. not-digit _ (fourth .before .octet5 .ensures) (fourth .stands-for2 .ensures) (c .if5 .taken) (d .fourth))
 

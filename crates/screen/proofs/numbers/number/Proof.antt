@@ -53,8 +53,8 @@ add-octet c = omega (arith, start c .good, taken-in-text (lent c) (here c) digit
 octet-requires-2 : tie.Need-octet-requires-2
 octet-requires-2 c κs = search needs
 
-goes-on-requires : tie.Need-goes-on-requires
-goes-on-requires c κs = search needs
+goes-on-with-requires : tie.Need-goes-on-with-requires
+goes-on-with-requires c κs = search needs
 
 sub-result : tie.Need-sub-result
 sub-result c = within-true 0x30 0x39 _ (is-digit (c .before .before .before)) .0
@@ -65,7 +65,7 @@ cast-result c = search needs
 returns-2 : tie.Need-returns-2
 returns-2 c =
     let first = c .before .before .before in
-    let ends = ap goesOnWith (sym (c .before .before .octet2 .ensures)) ∙ sym (c .before .goes-on .ensures)
+    let ends = ap goesOnWith (sym (c .before .before .octet2 .ensures)) ∙ sym (c .before .goes-on-with .ensures)
     ∙ not-true _ (c .if2 .taken) in
     ap (λ b. b - 48) (first .before .before .octet .ensures)
     ∙ sym (number-at (lent first) (here first) (begins first) (alone-at (lent first) (here first) (begins first) ends))
@@ -108,7 +108,7 @@ number-spec =
     returns
     add-octet
     octet-requires-2
-    goes-on-requires
+    goes-on-with-requires
     sub-result
     cast-result
     returns-2

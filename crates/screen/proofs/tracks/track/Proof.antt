@@ -1,7 +1,7 @@
 -- `track`: before each turn the digits so far are gathered, and what is left gives the others.
 -- Assumes nothing.
 use Prim.Native.Nat.{_-_}
-use mathlib.Core.Path.{sym, _∙_}
+use mathlib.Core.Path.{_≡_, sym, _∙_}
 use native.Mathlib.Omega.{arith}
 use borrow.Author.Needs.{needs}
 use borrow.Author.Tests.{not-false, not-true}
@@ -31,6 +31,20 @@ Inv-loop text at place₀ digits₀ count₀ place digits count = Digits text at
 
 abbrev μ-loop : tie.MeasureT-loop
 μ-loop text at place₀ digits₀ count₀ place digits count = 5 - count
+
+-- where the list was opened, and from there and from the loop back to the start
+module _ (c : tie.After-octet2 Inv-loop μ-loop) where
+  abbrev asked : tie.After-octet Inv-loop μ-loop
+  asked = c .before .before .before
+
+  abbrev from-opened : tie.Start Inv-loop μ-loop
+  from-opened = asked .before .before
+
+  is-list : at (from-opened .args .text .now) (from-opened .args .at) ≡ 0x5B
+  is-list = sym (asked .octet .ensures) ∙ c .before .before .if1 .left
+
+abbrev from-loop : tie.At-loop Inv-loop μ-loop → tie.Start Inv-loop μ-loop
+from-loop c = from-opened (c .before .before)
 
 octet-requires : tie.Need-octet-requires Inv-loop μ-loop
 octet-requires c κs = search needs
@@ -62,21 +76,18 @@ no-track-requires-2 c κs = search needs
 returns-2 : tie.Need-returns-2 Inv-loop μ-loop
 returns-2 c =
     let opened = c .before .before in
-    let given = opened .before .before .before .before .before .args in
+    let given = from-opened opened .args in
     no-five (given .text .now) (given .at)
-    (no-digits (given .text .now) (given .at)
-    (sym (opened .before .before .before .octet .ensures) ∙ opened .before .before .if1 .left) _ _
-    (opened .before .blanks .ensures) (opened .octet2 .ensures) (c .before .if2 .taken))
+    (no-digits (given .text .now) (given .at) (is-list opened) _ _ (opened .before .blanks .ensures)
+    (opened .octet2 .ensures) (c .before .if2 .taken))
     (c .no-track2 .ensures)
 
 loop-holds : tie.Need-loop-holds Inv-loop μ-loop
 loop-holds c =
     let opened = c .before in
-    let given = opened .before .before .before .before .before .args in
-    first-digit (given .text .now) (given .at)
-    (sym (opened .before .before .before .octet .ensures) ∙ opened .before .before .if1 .left) _ _
-    (opened .before .blanks .ensures) (opened .octet2 .ensures) (c .if2 .left)
-    (opened .before .before .before .before .before .pre)
+    let start = from-opened opened in
+    first-digit (start .args .text .now) (start .args .at) (is-list opened) _ _ (opened .before .blanks .ensures)
+    (opened .octet2 .ensures) (c .if2 .left) (start .pre)
 
 octet-requires-3 : tie.Need-octet-requires-3 Inv-loop μ-loop
 octet-requires-3 c κs = search needs
@@ -87,7 +98,7 @@ no-track-requires-3 c κs = search needs
 returns-3 : tie.Need-returns-3 Inv-loop μ-loop
 returns-3 c =
     let turn = c .before .before .before .before in
-    let given = turn .before .before .before .before .before .before .before .args in
+    let given = from-loop turn .args in
     no-five (given .text .now) (given .at)
     (other-digit (turn .loop .inv) _ (c .before .before .octet3 .ensures) (not-true _ (c .before .if3 .taken)))
     (c .no-track3 .ensures)
@@ -104,7 +115,7 @@ add-count c = search needs
 add-blanks-2 : tie.Need-add-blanks-2 Inv-loop μ-loop
 add-blanks-2 c =
     let turn = c .before .before .before in
-    let given = turn .before .before .before .before .before .before .before in
+    let given = from-loop turn in
     let (least, most) = zero-or-one (c .before .octet3 .result) (not-false _ (c .if3 .left)) in
     omega (
       arith,
@@ -123,7 +134,7 @@ module _ (c : tie.After-octet4 Inv-loop μ-loop) where
   turn = c .before .before .before .before
 
   abbrev start : tie.Start Inv-loop μ-loop
-  start = turn .before .before .before .before .before .before .before .before
+  start = from-loop (turn .before)
 
   read : DigitRead (start .args .text .now) (start .args .at) (turn .before .loop .place) (turn .before .loop .digits)
       (turn .before .loop .count) (c .before .before .before .octet3 .result) (c .before .blanks2 .result)
@@ -174,7 +185,7 @@ no-track-requires-5 c κs = search needs
 returns-6 : tie.Need-returns-6 Inv-loop μ-loop
 returns-6 c =
     let over = c .before .before in
-    let given = over .before .before .before .before .before .before .before .args in
+    let given = from-loop over .args in
     no-five (given .text .now) (given .at) (too-many-digits (over .loop .inv) (c .before .loop-test .left))
     (c .no-track5 .ensures)
 
