@@ -1,4 +1,4 @@
--- Our numbers: octet by octet, up to another most, at the head of a text and at a place.
+-- Our numbers at the head of a text and at a place.
 -- Assumes nothing.
 use Prim.Native.Nat.{ℕ, zero, suc, _+_, _-_, _*_, _≤_, _<_}
 use mathlib.Core.Bool.{Bool, and-false, cond, false, false≢true, not, true, _&&_, _||_}
@@ -11,6 +11,7 @@ use borrow.Author.Tests.{eqb-true, leb-false, le-leb, lt-leb, ne-eqb}
 use lib.Dec.{eqb, leb}
 use lib.ListN.{drop, drop-of-length-le, getD, length, length-drop, take}
 use lib.Seq.{drop-cons}
+use Rattle.digits.proofs.Counted.{noDigit, ours-up-to}
 use Rattle.json.proofs.Nested.{scalar-value}
 use Rattle.json.proofs.Places.{first-behind, taken-in-text}
 use Rattle.rules.specs.Screen.{isEmpty, numberAfter, numberOf, numberText, orElse, ourNumber, provided}
@@ -21,87 +22,6 @@ use Rattle.rules_json.specs.Tree.{Member, Tree, array, number, object, scalar, 
 use Rattle.rules_json.specs.Tree.{true-literal}
 use Rattle.screen.proofs.Within.{number-within}
 use Rattle.screen.specs.Places.{numberHere}
-
-abbrev pub noDigit : ℕ → Bool
-noDigit b = not (digit b)
-
--- ---- octet by octet
-
--- the number of what is left, behind n, and 65536 where there is none
-pub counted : ℕ → List ℕ → ℕ
-counted n s = orElse 65536 (provided (not (any noDigit s) && leb (numberAfter n s) 65535) (numberAfter n s))
-
-pub grows : (n : ℕ) (s : List ℕ) → n ≤ numberAfter n s
-grows n [] = omega arith
-grows n (b ∷ s) = omega (arith, grows (10 * n + (b - 48)) s)
-
-pub counted-whole : (text : List ℕ) → (length text ≡ 0 → ⊥) → counted 0 text ≡ orElse 65536 (ourNumber 65535 text)
-unfolding counted ourNumber
-counted-whole [] h = absurd (h refl)
-counted-whole (b ∷ text) h = refl
-
-pub counted-empty : (text : List ℕ) → length text ≡ 0 → 65536 ≡ orElse 65536 (ourNumber 65535 text)
-unfolding ourNumber
-counted-empty [] h = refl
-counted-empty (b ∷ text) h = absurd (omega arith)
-
-module _ (text : List ℕ) (place n : ℕ) where
-  pub counted-over : length text ≤ place → n < 65536 → counted n (drop place text) ≡ n
-  unfolding counted
-  counted-over h l =
-      ap (counted n) (drop-of-length-le text h) ∙ ap (λ t. orElse 65536 (provided t n)) (le-leb n 65535 (omega arith))
-
-  pub counted-great : 65536 ≤ n → counted n (drop place text) ≡ 65536
-  unfolding counted
-  counted-great h =
-      let rest = drop place text in
-      rw (lt-leb (numberAfter n rest) 65535 (omega (arith, grows n rest)), and-false)
-
-  module _ (within : place < length text) where
-    abbrev here : ℕ
-    here = getD text place 0
-
-    abbrev after : ℕ
-    after = 10 * n + (here - 48)
-
-    by-first : (t : Bool) → digit here ≡ t
-        → counted n (drop place text)
-        ≡ orElse 65536 (provided (not (not t || any noDigit (drop (place + 1) text))
-        && leb (numberAfter after (drop (place + 1) text)) 65535) (numberAfter after (drop (place + 1) text)))
-    unfolding counted
-    by-first t e =
-        rw (add-one)
-        (ap (counted n) (drop-cons text place 0 within)
-        ∙ ap (λ d. orElse 65536 (provided (not (not d || any noDigit (drop (suc place) text))
-        && leb (numberAfter after (drop (suc place) text)) 65535) (numberAfter after (drop (suc place) text)))) e)
-
-    pub counted-other : digit here ≡ false → counted n (drop place text) ≡ 65536
-    counted-other h = by-first false h
-
-    pub counted-on : digit here ≡ true → counted n (drop place text) ≡ counted after (drop (place + 1) text)
-    unfolding counted
-    counted-on h = by-first true h
-
--- ---- up to another most
-
--- from the number up to 65535 the number up to any less
-pub ours-up-to : (most : ℕ) (text : List ℕ) → most ≤ 65535
-    → ourNumber most text ≡ provided (leb (orElse 65536 (ourNumber 65535 text)) most)
-    (orElse 65536 (ourNumber 65535 text))
-unfolding ourNumber
-ours-up-to most text h =
-    by-tests (not (isEmpty text) && not (any noDigit text)) (numberAfter 0 text) (leb (numberAfter 0 text) 65535) refl
-  where
-    by-tests : (good : Bool) (n : ℕ) (t : Bool) → leb n 65535 ≡ t
-        → provided (good && leb n most) n
-        ≡ provided (leb (orElse 65536 (provided (good && leb n 65535) n)) most)
-        (orElse 65536 (provided (good && leb n 65535) n))
-    by-tests false n t e = sym (ap (λ b. provided b 65536) (lt-leb 65536 most (omega arith)))
-    by-tests true n true e = rw e
-    by-tests true n false e =
-        rw e
-        (ap (λ b. provided b n) (lt-leb n most (omega (arith, leb-false n 65535 e)))
-        ∙ sym (ap (λ b. provided b 65536) (lt-leb 65536 most (omega arith))))
 
 -- ---- the number at the head of a text
 

@@ -10,13 +10,14 @@ use borrow.Author.Tests.{le-leb}
 use lib.Dec.{eqb, leb}
 use lib.ListN.{drop, take}
 use Rattle.chains.proofs.Chains.{neither}
+use Rattle.digits.proofs.Counted.{grows, noDigit}
 use Rattle.json.proofs.Cases.{by-test, within-true}
 use Rattle.json.proofs.Places.{first-behind, octet-behind}
 use Rattle.rules.specs.Screen.{numberAfter, orElse, ourNumber, provided}
 use Rattle.rules.specs.Words.{any}
 use Rattle.rules_json.specs.Grammar.{blank, digit, e}
 use Rattle.rules_json.specs.Reader.{at, blanks, digits, expSize, fracSize, intSize, leading, numberSize}
-use Rattle.screen.proofs.Counting.{digit-text, grows, head-digit, no-number, noDigit, other-than}
+use Rattle.screen.proofs.Counting.{digit-text, head-digit, no-number, other-than}
 use Rattle.screen.proofs.Within.{number-within}
 use Rattle.screen.specs.Places.{goesOnWith, numberHere}
 

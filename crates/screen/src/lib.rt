@@ -9,6 +9,5 @@ mod tracks;
 mod writing;
 
 pub use message::message_of;
-pub use numbers::number_in;
 pub use reading::read;
 pub use writing::write;

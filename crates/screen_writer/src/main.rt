@@ -1,7 +1,6 @@
 // Reads a register from standard input, and writes the message of its last row, for the station whose
-// number is the first word: screen_writer N. Where it cannot, it writes `refused` and the number.
+// number is the second word. Where it cannot, it writes `refused` and the number.
 use libc::STDIN_FILENO;
-use libc::STDOUT_FILENO;
 use rules::BAD_MEMBER;
 use rules::DONE;
 use rules::NO_ROOM;
@@ -17,8 +16,8 @@ const NO_NUMBER: u32 = 65536;
 
 fn main() {
     let mut word = [0u8; 6];
-    let length = os::arg(1, &mut word);
-    let number = screen::number_in(&word[..length]);
+    let length = os::arg(2, &mut word);
+    let number = digits::number_in(&word[..length]);
     if NO_NUMBER <= number {
         refused(BAD_MEMBER, 0);
         return;
@@ -26,6 +25,10 @@ fn main() {
     // One byte more than a register has: more is refused, and nobody needs the rest.
     let mut input = [0u8; 65537];
     let given = io::read_full(STDIN_FILENO, &mut input);
+    if verb::input_failed() {
+        verb::ended(true, verb::FAILED);
+        return;
+    }
     told(number as u16, &input[..given]);
 }
 
@@ -43,12 +46,12 @@ fn told(number: u16, register: &[u8]) {
     let station = last.station;
     let mut text = [0u8; LONGEST];
     let written = screen::write(screen::message_of(number, station), &mut text);
-    io::write_all(STDOUT_FILENO, &text[..written.length]);
-    io::write_all(STDOUT_FILENO, b"\n");
+    let whole = verb::write(&text[..written.length]) & verb::write(b"\n");
+    verb::ended(whole, verb::DONE);
 }
 
 fn refused(answer: u8, entry: u64) {
     let mut line = [0u8; 64];
     let length = sheet::refusal_line(&mut line, answer, entry);
-    io::write_all(STDOUT_FILENO, &line[..length]);
+    verb::ended(verb::write(&line[..length]), verb::REFUSED);
 }

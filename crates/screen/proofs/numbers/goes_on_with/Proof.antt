@@ -4,11 +4,11 @@ use borrow.Author.Needs.{needs}
 use Rattle.screen.proofs.numbers.goes_on_with.Statement.{statement}
 use Rattle.screen.proofs.numbers.goes_on_with.Tie as tie
 
-digit-requires : tie.Need-digit-requires
-digit-requires c κs = search needs
+is-digit-requires : tie.Need-is-digit-requires
+is-digit-requires c κs = search needs
 
 returns : tie.Need-returns
 returns c = cc
 
 pub goes-on-with-spec : {M : Type 1} → statement M
-goes-on-with-spec = tie.close (tie.spec digit-requires returns)
+goes-on-with-spec = tie.close (tie.spec is-digit-requires returns)

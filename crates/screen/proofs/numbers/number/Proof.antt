@@ -22,14 +22,14 @@ use Rattle.screen.specs.Places.{goesOnWith}
 octet-requires : tie.Need-octet-requires
 octet-requires c κs = search needs
 
-digit-requires : tie.Need-digit-requires
-digit-requires c κs = search needs
+is-digit-requires : tie.Need-is-digit-requires
+is-digit-requires c κs = search needs
 
 returns : tie.Need-returns
 returns c =
     let given = c .before .before .before .before .args in
     number-none (given .text .now) (given .place)
-    (ap digit (sym (c .before .before .octet .ensures)) ∙ sym (c .before .digit .ensures) ∙ not-true _ (c .if1 .taken))
+    (ap digit (sym (c .before .before .octet .ensures)) ∙ sym (c .before .is-digit .ensures) ∙ not-true _ (c .if1 .taken))
 
 module _ (c : tie.Else1) where
   abbrev start : tie.Start
@@ -41,11 +41,11 @@ module _ (c : tie.Else1) where
   abbrev here : ℕ
   here = start .args .place
 
-  is-digit : digit (c .before .before .octet .result) ≡ true
-  is-digit = sym (c .before .digit .ensures) ∙ not-false _ (c .if1 .left)
+  a-digit : digit (c .before .before .octet .result) ≡ true
+  a-digit = sym (c .before .is-digit .ensures) ∙ not-false _ (c .if1 .left)
 
   begins : digit (at lent here) ≡ true
-  begins = ap digit (sym (c .before .before .octet .ensures)) ∙ is-digit
+  begins = ap digit (sym (c .before .before .octet .ensures)) ∙ a-digit
 
 add-octet : tie.Need-add-octet
 add-octet c = omega (arith, start c .good, taken-in-text (lent c) (here c) digit _ refl refl (begins c))
@@ -57,7 +57,7 @@ goes-on-with-requires : tie.Need-goes-on-with-requires
 goes-on-with-requires c κs = search needs
 
 sub-result : tie.Need-sub-result
-sub-result c = within-true 0x30 0x39 _ (is-digit (c .before .before .before)) .0
+sub-result c = within-true 0x30 0x39 _ (a-digit (c .before .before .before)) .0
 
 cast-result : tie.Need-cast-result
 cast-result c = search needs
@@ -104,7 +104,7 @@ number-spec =
     tie.close
     (tie.spec
     octet-requires
-    digit-requires
+    is-digit-requires
     returns
     add-octet
     octet-requires-2

@@ -1,0 +1,128 @@
+// A row's lines, and an empty one behind them.
+use crate::reports::report;
+use crate::words::answer;
+use crate::words::aspect;
+use rules::NOT_REPLAYED;
+use rules::Station;
+use rules::TrackPresence;
+use rules::ZoneDigits;
+
+// Room for any line.
+const LINE: usize = 80;
+
+// Writes a line of a label and three texts.
+pub(crate) fn line(label: &[u8], first: &[u8], second: &[u8], third: &[u8]) -> bool {
+    let mut text = [0u8; LINE];
+    let length = text::in_a_row(&mut text, label, first, second, third, b"\n");
+    verb::write(&text[..length])
+}
+
+// The row's number, as it was asked for.
+pub(crate) fn named(word: &[u8]) -> bool {
+    line(b"row       ", word, b"", b"")
+}
+
+// What the row is refused with. The entry is named where the answer is 13.
+pub(crate) fn refusal(answer: u8, entry: u64) -> bool {
+    let mut number = [0u8; 20];
+    let length = io::decimal(answer as u64, &mut number);
+    let mut place = [0u8; 20];
+    let place_length = io::decimal(entry, &mut place);
+    let said = if answer == NOT_REPLAYED {
+        line(
+            b"refused   ",
+            &number[..length],
+            b" at ",
+            &place[..place_length],
+        )
+    } else {
+        line(b"refused   ", &number[..length], b"", b"")
+    };
+    said & verb::write(b"\n")
+}
+
+// The row's entry, and what its station shows.
+pub(crate) fn row(entry: &[u8], after: Station) -> bool {
+    entered(entry)
+        & aspect(station::aspect(after))
+        & heads(after)
+        & zones(station::zones(after))
+        & presence(station::presence(after))
+        & verb::write(b"\n")
+}
+
+// Row 0 has no entry, so that its part is empty. An entry has its answer behind the report.
+fn entered(entry: &[u8]) -> bool {
+    if entry.len() < 7 {
+        return verb::write(b"report    none, the fresh station\n");
+    }
+    report(register::report_in(entry)) & answer(entry[6])
+}
+
+fn heads(after: Station) -> bool {
+    let shown = station::heads(after);
+    let first = nine(shown[0]);
+    let second = nine(shown[1]);
+    line(b"heads     ", &first, b" ", &second)
+}
+
+// Nine outputs from VF to S4.
+fn nine(outputs: u16) -> [u8; 9] {
+    [
+        digit(outputs % 2 == 1),
+        digit(outputs / 2 % 2 == 1),
+        digit(outputs / 4 % 2 == 1),
+        digit(outputs / 8 % 2 == 1),
+        digit(outputs / 16 % 2 == 1),
+        digit(outputs / 32 % 2 == 1),
+        digit(outputs / 64 % 2 == 1),
+        digit(outputs / 128 % 2 == 1),
+        digit(outputs / 256 % 2 == 1),
+    ]
+}
+
+fn zones(digits: ZoneDigits) -> bool {
+    let five = [
+        digit(digits[0] == 1),
+        digit(digits[1] == 1),
+        digit(digits[2] == 1),
+        digit(digits[3] == 1),
+        digit(digits[4] == 1),
+    ];
+    line(b"zones     ", &five, b"", b"")
+}
+
+fn digit(one: bool) -> u8 {
+    if one { b'1' } else { b'0' }
+}
+
+// The tracks that count for the greatest risk.
+fn presence(counts: TrackPresence) -> bool {
+    let zero = counts[0];
+    let one = counts[1];
+    let two = counts[2];
+    let three = counts[3];
+    let some = zero | one | two | three;
+    let several = (zero & (one | two | three)) | (one & (two | three)) | (two & three);
+    presence_of(some, several)
+        & track(zero, b" 0")
+        & track(one, b" 1")
+        & track(two, b" 2")
+        & track(three, b" 3")
+        & verb::write(b"\n")
+}
+
+fn presence_of(some: bool, several: bool) -> bool {
+    if several {
+        return verb::write(b"presence  tracks");
+    }
+    if some {
+        verb::write(b"presence  track")
+    } else {
+        verb::write(b"presence  no track")
+    }
+}
+
+fn track(counted: bool, number: &[u8]) -> bool {
+    if counted { verb::write(number) } else { true }
+}
