@@ -1,25 +1,7 @@
 //! What a refusal returns beside its number, which the wrapper does not hand on. Of making, reading and stepping: a fresh station of
 //! one track, with T1 to T4 equal to 1 and T5 to 2, and count 0. Of a text: zeros and no tracks. Of writing a message: length 0.
 
-// The declarations are the package's own file, which names its structs by these paths.
-#[allow(dead_code)]
-#[path = "../src/declared.rs"]
-mod declared;
-mod message {
-    pub use degvuurel::Message;
-}
-mod report {
-    pub use degvuurel::Report;
-}
-mod sheet {
-    pub use degvuurel::{RowFields, SheetText};
-}
-mod siting {
-    pub use degvuurel::{Metres, Seconds};
-}
-mod station {
-    pub use degvuurel::{Settings, Station};
-}
+include!("archive/declared.rs");
 
 use degvuurel::{Message, Settings, Station};
 use std::fs;
