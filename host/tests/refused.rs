@@ -62,7 +62,7 @@ fn a_refused_message() {
 /// An example with each of its bits turned in turn: most are refused, and each refusal returns the same.
 #[test]
 fn a_refused_reading_and_stepping() {
-    let example = Path::new(env!("CARGO_MANIFEST_DIR")).join("../examples/two_trains.cea");
+    let example = Path::new(env!("CARGO_MANIFEST_DIR")).join("../cases/two_trains.cea");
     let mut bytes = fs::read(example).expect("the example is there");
     let mut refused = [0; 15];
     for bit in 0..bytes.len() * 8 {
