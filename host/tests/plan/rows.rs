@@ -66,26 +66,29 @@ const BEHIND: [(&[u8], u8, usize); 50] = [
 ];
 
 /// Whole texts: what is wrong with them.
-const WHOLE: [(&str, u8, usize); 19] = [
-    ("", 11, 0),
-    ("\n\n", 11, 0),
-    ("# tracks 2", 11, 0),
-    ("tracks 2\nt1 300\nt2 300\nt3 300\nt4 0\n", 11, 0),
-    ("t1 300\n\nnormalise", 8, 3),
-    ("normalise", 8, 1),
-    ("t1 300\nclock 65536", 5, 2),
-    ("t1 300\nt1 300\nnormalise", 7, 2),
-    ("tracks 256", 4, 1),
-    ("tracks", 2, 1),
-    ("tracks 0\nt1 300\nt2 300\nt3 300\nt4 0\nt5 600", 9, 6),
-    ("tracks 5\nt1 300\nt2 300\nt3 300\nt4 0\nt5 600", 9, 6),
-    ("tracks 2\nt1 0\nt2 300\nt3 300\nt4 0\nt5 600", 9, 6),
-    ("tracks 2\nt1 300\nt2 0\nt3 300\nt4 0\nt5 600", 9, 6),
-    ("tracks 2\nt1 300\nt2 300\nt3 0\nt4 0\nt5 600", 9, 6),
-    ("tracks 2\nt1 300\nt2 300\nt3 300\nt4 0\nt5 300", 9, 6),
-    ("t5 300\n\nt4 0\nt3 300\nt2 300\nt1 300\ntracks 2\nocupied", 9, 7),
-    ("t5 0\nt4 0\nt3 0\nt2 0\nt1 0\nnormalise", 8, 6),
-    ("\u{feff}\u{feff}tracks 2", 1, 1),
+const WHOLE: [(&[u8], u8, usize); 22] = [
+    (b"", 11, 0),
+    (b"\n\n", 11, 0),
+    (b"# tracks 2", 11, 0),
+    (b"tracks 2\nt1 300\nt2 300\nt3 300\nt4 0\n", 11, 0),
+    (b"t1 300\n\nnormalise", 8, 3),
+    (b"normalise", 8, 1),
+    (b"t1 300\nclock 65536", 5, 2),
+    (b"t1 300\nt1 300\nnormalise", 7, 2),
+    (b"tracks 256", 4, 1),
+    (b"tracks", 2, 1),
+    (b"tracks 0\nt1 300\nt2 300\nt3 300\nt4 0\nt5 600", 9, 6),
+    (b"tracks 5\nt1 300\nt2 300\nt3 300\nt4 0\nt5 600", 9, 6),
+    (b"tracks 2\nt1 0\nt2 300\nt3 300\nt4 0\nt5 600", 9, 6),
+    (b"tracks 2\nt1 300\nt2 0\nt3 300\nt4 0\nt5 600", 9, 6),
+    (b"tracks 2\nt1 300\nt2 300\nt3 0\nt4 0\nt5 600", 9, 6),
+    (b"tracks 2\nt1 300\nt2 300\nt3 300\nt4 0\nt5 300", 9, 6),
+    (b"t5 300\n\nt4 0\nt3 300\nt2 300\nt1 300\ntracks 2\nocupied", 9, 7),
+    (b"t5 0\nt4 0\nt3 0\nt2 0\nt1 0\nnormalise", 8, 6),
+    (b"\xEF\xBB\xBF\xEF\xBB\xBFtracks 2", 1, 1),
+    (b"\xEF\xBBtracks 2", 1, 1),
+    (b"\xEF\xBB\xBEtracks 2", 1, 1),
+    (b"\n\xEF\xBB\xBFtracks 2", 1, 2),
 ];
 
 /// Texts with settings of their own, of which nothing is wrong.
@@ -109,7 +112,7 @@ pub fn hold(read: impl Fn(&[u8]) -> Result<Plan, Misread>) {
         assert_eq!(read(&text), Err(Misread { fault, line }), "{}", lines.escape_ascii());
     }
     for (text, fault, line) in WHOLE {
-        assert_eq!(read(text.as_bytes()), Err(Misread { fault, line }), "{text:?}");
+        assert_eq!(read(text), Err(Misread { fault, line }), "{}", text.escape_ascii());
     }
     for (text, settings) in MEANT {
         assert_eq!(read(text.as_bytes()), Ok(Plan { settings, reports: vec![] }), "{text:?}");
