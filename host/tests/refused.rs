@@ -23,6 +23,8 @@ fn a_refused_making() {
         Settings { t1: 0, ..good },
         Settings { t2: 0, ..good },
         Settings { t3: 0, ..good },
+        Settings { t5: 0, ..good },
+        Settings { t5: 7, ..good },
         Settings { t5: 8, ..good },
     ];
     for settings in bad {
@@ -84,6 +86,17 @@ fn a_refused_reading_and_stepping() {
             }
         }
         bytes[bit / 8] ^= 1 << (bit % 8);
+    }
+    // Bytes that are cut or too many: 9, 11 and 12.
+    bytes.resize(65_552, 0);
+    for (length, answer) in [(0, 9), (15, 9), (25, 11), (65_537, 11), (65_544, 12), (65_552, 12)] {
+        // SAFETY: the length is no more than that of the bytes.
+        let [read, step] =
+            unsafe { [declared::degvuurel_read(bytes.as_ptr(), length), declared::degvuurel_step(bytes.as_ptr(), length, 0)] };
+        for reading in [read, step] {
+            let said = (reading.answer, reading.entry, reading.count, reading.station);
+            assert_eq!(said, (answer, 0, 0, least()), "{length} bytes");
+        }
     }
     assert!([8, 9, 10, 13, 14].iter().all(|&answer: &usize| refused[answer] > 100), "{refused:?}");
 }
