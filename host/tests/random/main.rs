@@ -63,7 +63,7 @@ const LONG_PLANS: u64 = 60;
 
 /// Registers, and as many damaged ones, and planner's texts that go through the shipped code too.
 const SHIPPED: u64 = 2_000;
-const SHIPPED_PLANS: u64 = 1_000;
+const SHIPPED_PLANS: u64 = 2_000;
 
 /// Each answer is seen at least so often among the usual number of registers, and among those that go through the shipped code.
 const LEAST: u64 = 1_000;

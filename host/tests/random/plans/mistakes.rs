@@ -54,48 +54,59 @@ fn place(lines: &[Line], chance: &mut Chance) -> usize {
 /// One mistake.
 pub fn mistake(lines: &mut Vec<Line>, chance: &mut Chance) {
     let at = place(lines, chance);
-    let other = place(lines, chance);
-    match chance.below(16) {
-        0 => misspell(&mut lines[at], chance),
-        1 => drop(lines[at].pop()),
-        2 => drop(lines[at].drain(..1)),
+    if chance.one_in(2) || lines[at].is_empty() {
+        in_lines(lines, at, chance);
+    } else {
+        in_words(&mut lines[at], chance);
+    }
+}
+
+/// Among the words of a line, of which there are some.
+fn in_words(line: &mut Line, chance: &mut Chance) {
+    let at = chance.below(line.len());
+    match chance.below(8) {
+        0 => misspell(&mut line[0], chance),
+        1 => drop(line.pop()),
+        2 => drop(line.remove(at)),
         3 => {
             let word = if chance.one_in(2) { odd_number(chance) } else { chance.pick(&NAMES).into() };
-            let to = chance.below(lines[at].len() + 1);
-            lines[at].insert(to, word);
+            line.insert(at + 1, word);
         }
-        4..=6 => {
-            let word = 1 + chance.below(lines[at].len().max(2) - 1);
-            if let Some(number) = lines[at].get_mut(word) {
+        4 => line.swap(0, at),
+        _ => {
+            if let Some(number) = line.get_mut(at.max(1)) {
                 *number = odd_number(chance);
             }
         }
-        7 => lines.swap(at, other),
-        8 => lines.insert(other, lines[at].clone()),
-        9 if lines.len() > 1 => drop(lines.remove(at)),
-        10 | 11 => outside(&mut lines[at], chance),
-        12 => {
+    }
+}
+
+/// Among the lines: one that stands elsewhere, twice or nowhere, or that has the words of two.
+fn in_lines(lines: &mut Vec<Line>, at: usize, chance: &mut Chance) {
+    let other = place(lines, chance);
+    match chance.below(9) {
+        0 => lines.swap(at, other),
+        1 => lines.insert(other, lines[at].clone()),
+        2 if lines.len() > 1 => drop(lines.remove(at)),
+        3 | 4 => outside(&mut lines[at], chance),
+        5 => {
             let next = lines.get(at + 1).cloned().unwrap_or_default();
             lines[at].extend(next);
         }
-        13 => {
-            let (one, two) = (chance.below(lines[at].len().max(1)), chance.below(lines[at].len().max(1)));
-            if !lines[at].is_empty() {
-                lines[at].swap(one, two);
-            }
-        }
-        14 => {
-            let name = chance.pick(&NAMES[..6]);
+        6 | 7 => {
+            let setting = format!("{} {}", chance.pick(&NAMES[..6]), chance.below(9));
             let to = if chance.one_in(2) { lines.len() } else { at };
-            lines.insert(to, line(&format!("{name} {}", chance.below(9))));
+            lines.insert(to, line(&setting));
         }
         _ => lines.truncate(at + 1),
     }
 }
 
-/// A letter more, less or another in the first word.
-fn misspell(line: &mut Line, chance: &mut Chance) {
-    let Some(word) = line.first_mut().filter(|word| !word.is_empty()) else { return };
+/// A letter more, less or another.
+fn misspell(word: &mut Vec<u8>, chance: &mut Chance) {
+    if word.is_empty() {
+        return;
+    }
     let at = chance.below(word.len());
     match chance.below(4) {
         0 => drop(word.remove(at)),
