@@ -37,8 +37,12 @@ fn well_formed() -> [Report; 7] {
 /// A station where much stands, on the tracks beyond its number too, and no two fields are alike: whatever a refusal would clear,
 /// copy or overwrite shows.
 fn busy(settings: Settings) -> Station {
-    let island =
-        |number: u16| Island { occupied: number % 2 == 0, leaving: number % 3 == 0, failed: number % 5 == 0, age: 1000 + number };
+    let island = |number: u16| Island {
+        occupied: number.is_multiple_of(2),
+        leaving: number.is_multiple_of(3),
+        failed: number.is_multiple_of(5),
+        age: 1000 + number,
+    };
     let track = |track: u16| Track { islands: [0, 1, 2, 3, 4].map(|place| island(5 * track + place)) };
     Station { settings, tracks: [0, 1, 2, 3].map(track), hold: 77, fault: false, conditions: [0xFC08, 64] }
 }

@@ -1,12 +1,12 @@
 //! What is printed of bytes that cannot be read, and lines of any fields.
 
-use super::changed;
+use super::{changed, Change};
 use degvuurel::{print, refusal_line, row_line, RowFields, SHEET};
 
 #[test]
 fn one_line_of_what_cannot_be_read() {
     let mut text = Box::new([0; SHEET]);
-    let table: [(&[(usize, u8)], usize, &str); 9] = [
+    let table: [(&[Change], usize, &str); 9] = [
         (&[], 0, "refused 9\n"),
         (&[(3, 2)], 56, "refused 10\n"),
         (&[], 17, "refused 11\n"),
