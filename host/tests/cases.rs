@@ -36,18 +36,6 @@ fn text_of(name: &str, end: &str) -> String {
     String::from_utf8(bytes_of(name, end)).unwrap_or_else(|error| panic!("{name}.{end}: {error}"))
 }
 
-/// The register of a text as the plain reader and the paper have it.
-fn on_paper(text: &[u8]) -> Option<Vec<u8>> {
-    let plan = plan::read(text).ok()?;
-    let mut bytes = vec![0; 16 + 8 * plan.reports.len()];
-    paper::start(&mut bytes, plan.settings);
-    let mut station = paper::make(plan.settings).1;
-    for (k, &(_, report)) in plan.reports.iter().enumerate() {
-        paper::append(&mut bytes, k, &mut station, report);
-    }
-    Some(bytes)
-}
-
 /// What is told of each text; and no text is recorded by one side alone.
 #[test]
 fn texts_are_recorded_or_not() {
@@ -57,7 +45,8 @@ fn texts_are_recorded_or_not() {
         match record(&text) {
             Ok(plan) => {
                 assert_eq!(shown::told(&plan), told, "{name}");
-                assert_eq!(on_paper(&text).as_deref(), Some(plan.register().bytes()), "{name}");
+                let plain = plan::read(&text).unwrap_or_else(|misread| panic!("{name} is not recorded on paper: {misread:?}"));
+                assert_eq!(plan.register().bytes(), plain.register(), "{name}");
             }
             Err(misread) => {
                 assert_eq!(Some(misread.to_string().as_str()), told.lines().next(), "{name}");

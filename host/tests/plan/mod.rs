@@ -1,7 +1,7 @@
 //! A reader of planner's texts in plain Rust, which shares nothing with the library: bytes go in, and settings and reports with
 //! their lines come out, or what is wrong.
 
-use crate::paper::{settings_answer, Report, Settings};
+use crate::paper::{append, make, settings_answer, start, Report, Settings};
 
 const BYTE_ORDER_MARK: &[u8] = b"\xEF\xBB\xBF";
 
@@ -28,6 +28,19 @@ pub const FAULTS: usize = 12;
 pub struct Plan {
     pub settings: Settings,
     pub reports: Vec<(usize, Report)>,
+}
+
+impl Plan {
+    /// The register that it means, as the paper fills it.
+    pub fn register(&self) -> Vec<u8> {
+        let mut bytes = vec![0; 16 + 8 * self.reports.len()];
+        start(&mut bytes, self.settings);
+        let (_, mut station) = make(self.settings);
+        for (k, &(_, report)) in self.reports.iter().enumerate() {
+            append(&mut bytes, k, &mut station, report);
+        }
+        bytes
+    }
 }
 
 /// What is wrong with a text, 1 to 11, and on which line, counted from 1; 0 is the text's end.

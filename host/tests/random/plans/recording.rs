@@ -2,23 +2,11 @@
 //! that is written of a text which is not recorded.
 
 use crate::declared::{degvuurel_record, RegisterBytes, RowLines};
-use crate::paper;
-use crate::plan::{self, Misread, Plan};
+use crate::plan::{self, Misread};
 use crate::runs::Bench;
 use crate::shipped::{Fields, RECORD};
 use crate::values::{same, same_bytes};
-use degvuurel::{record, ENTRY, HEADER, MOST, MOST_BYTES};
-
-/// The register of a plan as the paper fills it.
-fn filled(plan: &Plan) -> Vec<u8> {
-    let mut bytes = vec![0; HEADER + ENTRY * plan.reports.len()];
-    paper::start(&mut bytes, plan.settings);
-    let (_, mut station) = paper::make(plan.settings);
-    for (k, &(_, report)) in plan.reports.iter().enumerate() {
-        paper::append(&mut bytes, k, &mut station, report);
-    }
-    bytes
-}
+use degvuurel::{record, MOST, MOST_BYTES};
 
 /// What is expected of a text: its fault and its line, or the register's bytes, and the lines of its rows.
 struct Expected {
@@ -31,7 +19,7 @@ fn expected(text: &[u8]) -> Expected {
     match plan::read(text) {
         Ok(plan) => Expected {
             misread: Misread { fault: 0, line: 0 },
-            bytes: filled(&plan),
+            bytes: plan.register(),
             lines: plan.reports.iter().map(|&(line, _)| line).collect(),
         },
         Err(misread) => Expected { misread, bytes: Vec::new(), lines: Vec::new() },
