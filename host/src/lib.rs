@@ -1,9 +1,10 @@
 //! What a class 2-A platform crossing must show, row by row, from a library whose every function is proved.
 //!
-//! Reports of trains go in, or a planner's text of them; the aspect, the signal heads and a register that can be stepped back through
-//! come out. The rules are those of document 01, "Exact rules for the build", written down in the repository's `crates/rules/specs`,
-//! and what a planner's text means in `crates/rules_plan/specs`. This package declares the library's functions and puts safe Rust
-//! around them. It adds no rule of its own: it passes values on, and gives names to the numbers that come back.
+//! Reports of trains go in, or a planner's text of them; the aspect, the signal heads and a register that can be stepped back
+//! through come out. The rules are those of document 01, "Exact rules for the build", written down in the repository's
+//! `crates/rules/specs`, and what a planner's text means in `crates/rules_plan/specs`. This package declares the library's
+//! functions and puts safe Rust around them. It adds no rule of its own: it passes values on, and gives names to the numbers that
+//! come back.
 //!
 //! ```
 //! use degvuurel::{Aspect, Recorder, Report, Settings};

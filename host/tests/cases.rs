@@ -1,5 +1,5 @@
-//! The cases of the repository, through the package: each planner's text and what was typed beside it. The plain reader and the paper
-//! are held to the same sheets.
+//! The cases of the repository, through the package: each planner's text and what was typed beside it. The plain reader and the
+//! paper are held to the same sheets.
 
 // Only a part of it is asked here.
 #[allow(dead_code, unused_imports)]

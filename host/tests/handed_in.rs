@@ -1,5 +1,5 @@
-//! Stations that no report leads to, handed in: settings outside their limits, and every field in use. And siting at its limits. The
-//! numbers are typed from document 01.
+//! Stations that no report leads to, handed in: settings outside their limits, and every field in use. And siting at its limits.
+//! The numbers are typed from document 01.
 
 include!("archive/declared.rs");
 

@@ -1,5 +1,5 @@
-//! Registers in lent bytes, by numbers typed from document 01: what a planner's text cannot say. Bytes that are no register, are too
-//! few or too many, a place that is not the next, and a station of other settings.
+//! Registers in lent bytes, by numbers typed from document 01: what a planner's text cannot say. Bytes that are no register, are
+//! too few or too many, a place that is not the next, and a station of other settings.
 
 #[path = "registers/sheets.rs"]
 mod sheets;

@@ -122,7 +122,8 @@ pub fn hold(read: impl Fn(&[u8]) -> Result<Plan, Misread>) {
 }
 
 fn hold_reports(read: &impl Fn(&[u8]) -> Result<Plan, Misread>) {
-    let lines = b"Normalise#now\nOCCUPIED 255 0255\n\n free 1 4 # ma\xF1ana\nclock 65535\r\nfailed 0 1\n\trestored\t2 3\nhead 1 1023\nreport 9 8 7 6 54321";
+    let lines = b"Normalise#now\nOCCUPIED 255 0255\n\n free 1 4 # ma\xF1ana\nclock 65535\r\nfailed 0 1\n\trestored\t2 3\n\
+                  head 1 1023\nreport 9 8 7 6 54321";
     let reports = [
         (7, [7, 0, 0, 0], 0),
         (8, [1, 255, 255, 0], 0),
@@ -137,7 +138,8 @@ fn hold_reports(read: &impl Fn(&[u8]) -> Result<Plan, Misread>) {
     assert_eq!(read(&[SETTINGS.as_bytes(), lines].concat()), Ok(Plan { settings: PLAIN, reports }));
 }
 
-/// As many reports as a register has, and one more. What is wrong behind it is not looked at, and what is wrong with it comes first.
+/// As many reports as a register has, and one more. What is wrong behind it is not looked at, and what is wrong with it comes
+/// first.
 fn hold_most(read: &impl Fn(&[u8]) -> Result<Plan, Misread>) {
     let most = format!("{SETTINGS}{}", "clock 1\n".repeat(8190));
     assert_eq!(read(most.as_bytes()).map(|plan| plan.reports.len()), Ok(8190));
