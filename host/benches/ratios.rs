@@ -4,6 +4,9 @@
 #[path = "../tests/paper/mod.rs"]
 #[allow(dead_code, unused_imports)] // The benches call a part of it.
 mod paper;
+#[path = "../tests/plan/mod.rs"]
+#[allow(dead_code)] // And of this.
+mod plan;
 #[path = "ratios/texts.rs"]
 mod texts;
 #[path = "ratios/traffic.rs"]
@@ -26,6 +29,7 @@ fn main() {
     ticks();
     reports();
     registers();
+    plans();
     messages();
 }
 
@@ -154,6 +158,22 @@ fn registers() {
             || paper::print(black_box(&bytes)).len() as u64,
         );
     }
+}
+
+/// What is compared of a register that was recorded. The tests compare all of it.
+fn register_sum(bytes: &[u8]) -> u64 {
+    bytes.chunks(4).fold(0, |sum: u64, part| sum.wrapping_mul(31).wrapping_add(u64::from(part[part.len() - 1])))
+}
+
+fn plans() {
+    let text = traffic::text(traffic::SETTINGS, &traffic::trains(2, 20, 8190));
+    let text = black_box(text.into_bytes());
+    line(
+        "a line recorded, of 8,196: trains, clocks of 1 to 20",
+        8196,
+        || register_sum(degvuurel::record(&text).expect("nothing is wrong with it").register().bytes()),
+        || register_sum(&plan::read(&text).expect("nothing is wrong with it").register()),
+    );
 }
 
 /// What is compared of a message here. The tests compare all of it.

@@ -6,7 +6,8 @@
  * - A pointer and a length are one run of that many bytes. The pointer is not null, even where the length is 0.
  * - While a function is at work, nobody else writes to the bytes lent to it, and two runs lent together do not overlap.
  * - A bool is 0 or 1. A struct that was never filled may hold other bytes, so fill it before it is handed over.
- * - The text of degvuurel_print has room for DEGVUUREL_SHEET bytes.
+ * - The text of degvuurel_print has room for DEGVUUREL_SHEET bytes. The register of degvuurel_record has room for
+ *   DEGVUUREL_MOST_BYTES bytes, and its rows for DEGVUUREL_MOST lines.
  *
  * Nothing is kept between calls. A station is a plain value: it goes in, and the next one comes back. */
 #ifndef DEGVUUREL_H
@@ -56,6 +57,23 @@ enum {
     DEGVUUREL_RESTORED = 5,  /* a is the track, b the island */
     DEGVUUREL_HEAD = 6,      /* a is the head, value its condition */
     DEGVUUREL_NORMALISE = 7
+};
+
+/* What is wrong with a planner's text: 1 to 10 with one of its lines, 11 when it ends. The first line with a fault decides, and of
+ * more than one there the first of 1, then 2, 4 or 5 from left to right, 3, 6, 7, 8, 10, 9. */
+enum {
+    DEGVUUREL_UNDERSTOOD = 0,
+    DEGVUUREL_NOT_A_NAME = 1,        /* the first word is not a setting, and not a kind of report */
+    DEGVUUREL_NUMBER_MISSING = 2,    /* a number is missing */
+    DEGVUUREL_WORD_TOO_MANY = 3,     /* a word too many */
+    DEGVUUREL_NOT_A_BYTE = 4,        /* not a number from 0 to 255 */
+    DEGVUUREL_NOT_SIXTEEN_BITS = 5,  /* not a number from 0 to 65535 */
+    DEGVUUREL_LATE_SETTING = 6,      /* a setting after the first report */
+    DEGVUUREL_SET_ALREADY = 7,       /* set already */
+    DEGVUUREL_SETTINGS_MISSING = 8,  /* a report before all six settings */
+    DEGVUUREL_SETTINGS_OUTSIDE = 9,  /* with this the settings are outside their limits */
+    DEGVUUREL_TOO_MANY_REPORTS = 10, /* more than 8190 reports */
+    DEGVUUREL_TEXT_ENDS = 11         /* the text ends before all six settings */
 };
 
 /* The bytes of a register's header and of an entry, the most entries, and the bytes of the longest sheet. */
@@ -205,6 +223,14 @@ struct degvuurel_written {
     size_t length;
 };
 
+/* What recording a planner's text gives: its fault, or 0; the line that is at fault, counted from 1, or 0 where none is, as when
+ * the text ends too early; and how many reports were entered. */
+struct degvuurel_recorded {
+    uint8_t fault;
+    size_t line;
+    size_t count;
+};
+
 /* The archive has these sizes. A compiler that is told to pack structs, or to count in 32 bits, would hand over other bytes: it
  * stops here, at an array of less than no bytes. */
 #define DEGVUUREL_SIZE(name, bytes) typedef char degvuurel_size_of_##name[sizeof(struct degvuurel_##name) == (bytes) ? 1 : -1]
@@ -227,6 +253,7 @@ DEGVUUREL_SIZE(row_fields, 24);
 DEGVUUREL_SIZE(message, 24);
 DEGVUUREL_SIZE(received, 26);
 DEGVUUREL_SIZE(written, 16);
+DEGVUUREL_SIZE(recorded, 24);
 #undef DEGVUUREL_SIZE
 
 /* A fresh station. Where the settings are refused with 8, one of the least settings. */
@@ -297,6 +324,11 @@ struct degvuurel_settings degvuurel_settings_in(const uint8_t *bytes, size_t len
 
 /* The report of an entry. Bytes that are missing count as 0, which is no kind of report. */
 struct degvuurel_report degvuurel_report_in(const uint8_t *entry, size_t length);
+
+/* Records a planner's text: writes the register that it means at the start of the register's DEGVUUREL_MOST_BYTES bytes, 16 and 8
+ * for each report entered, and the line of each row into rows, which has DEGVUUREL_MOST places, row 1 first. What lies behind them
+ * stays as it was; where something is wrong with the text, nothing is written at all. */
+struct degvuurel_recorded degvuurel_record(const uint8_t *text, size_t length, uint8_t *bytes, size_t *rows);
 
 /* Writes what is printed of an input at the start of text, which has DEGVUUREL_SHEET bytes, and answers its length. The text is
  * not ended by a 0. */

@@ -6,6 +6,7 @@
 //! and bools of Rust, for which both hold.
 
 use crate::message::Message;
+use crate::register::{MOST, MOST_BYTES};
 use crate::report::Report;
 use crate::sheet::{RowFields, SheetText};
 use crate::siting::{Metres, Seconds};
@@ -81,6 +82,20 @@ pub struct Written {
     pub length: usize,
 }
 
+/// What recording a planner's text gives: its fault, or 0, the line that is at fault, or 0, and the reports entered.
+#[repr(C)]
+pub struct Recorded {
+    pub fault: u8,
+    pub line: usize,
+    pub count: usize,
+}
+
+/// Room for any register.
+pub type RegisterBytes = [u8; MOST_BYTES];
+
+/// Room for the line of each of its rows.
+pub type RowLines = [usize; MOST];
+
 extern "C" {
     pub fn degvuurel_make(settings: Settings) -> Made;
     pub fn degvuurel_take(station: Station, report: Report) -> Taken;
@@ -106,6 +121,8 @@ extern "C" {
     pub fn degvuurel_entry(register: *const u8, length: usize, row: usize) -> Entry;
     pub fn degvuurel_settings_in(register: *const u8, length: usize) -> Settings;
     pub fn degvuurel_report_in(entry: *const u8, length: usize) -> Report;
+
+    pub fn degvuurel_record(text: *const u8, length: usize, register: *mut RegisterBytes, rows: *mut RowLines) -> Recorded;
 
     pub fn degvuurel_print(input: *const u8, length: usize, text: *mut SheetText) -> usize;
     pub fn degvuurel_title_line(out: *mut u8, length: usize) -> usize;

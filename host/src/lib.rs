@@ -1,9 +1,10 @@
 //! What a class 2-A platform crossing must show, row by row, from a library whose every function is proved.
 //!
-//! Reports of trains go in; the aspect, the signal heads and a register that can be stepped back through come out. The rules are
-//! those of document 01, "Exact rules for the build", written down in the repository's `crates/rules/specs`. This package declares
-//! the library's functions and puts safe Rust around them. It adds no rule of its own: it passes values on, and gives names to
-//! the numbers that come back.
+//! Reports of trains go in, or a planner's text of them; the aspect, the signal heads and a register that can be stepped back
+//! through come out. The rules are those of document 01, "Exact rules for the build", written down in the repository's
+//! `crates/rules/specs`, and what a planner's text means in `crates/rules_plan/specs`. This package declares the library's
+//! functions and puts safe Rust around them. It adds no rule of its own: it passes values on, and gives names to the numbers that
+//! come back.
 //!
 //! ```
 //! use degvuurel::{Aspect, Recorder, Report, Settings};
@@ -31,6 +32,7 @@ mod aspect;
 mod browser;
 mod declared;
 mod message;
+mod plan;
 mod recorder;
 mod register;
 mod report;
@@ -42,6 +44,7 @@ pub use answer::{Answer, Refusal};
 pub use aspect::{Aspect, Outputs};
 pub use browser::Browser;
 pub use message::{Message, MESSAGE, MESSAGE_READ};
+pub use plan::{record, Fault, Misread, Plan};
 pub use recorder::{append, start, Recorder};
 pub use register::{Reading, Register, ENTRY, HEADER, MOST, MOST_BYTES};
 pub use report::{report_in, Report};

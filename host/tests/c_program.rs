@@ -36,19 +36,23 @@ fn a_register_is_filled_and_printed() {
 
 #[test]
 fn every_function_gives_what_the_documents_say() {
-    each_way("checks", &["checks.c", "check_stations.c", "check_structs.c", "check_registers.c", "check_screens.c"], "");
+    each_way(
+        "checks",
+        &["checks.c", "check_stations.c", "check_structs.c", "check_registers.c", "check_plans.c", "check_screens.c"],
+        "",
+    );
 }
 
 /// The programs above are worth what they call.
 #[test]
 fn every_function_of_the_header_is_called() {
     let header = fs::read_to_string(package().join("include/degvuurel.h")).expect("the header is there");
-    let called: String = ["check_stations.c", "check_structs.c", "check_registers.c", "check_screens.c"]
+    let called: String = ["check_stations.c", "check_structs.c", "check_registers.c", "check_plans.c", "check_screens.c"]
         .map(|file| fs::read_to_string(package().join("tests/c").join(file)).expect("the program is there"))
         .concat();
     let functions: Vec<&str> =
         header.split(|c: char| !c.is_alphanumeric() && c != '_' && c != '(').filter_map(function_in).collect();
-    assert_eq!(functions.len(), 29);
+    assert_eq!(functions.len(), 30);
     for function in functions {
         assert!(called.contains(&format!("{function}(")), "{function} is called by no program");
     }

@@ -5,29 +5,12 @@ mod compiled;
 #[path = "c/sources.rs"]
 mod sources;
 
-// The declarations are the package's own file, which names its structs by these paths.
-#[allow(dead_code)]
-#[path = "../src/declared.rs"]
-mod declared;
-mod message {
-    pub use degvuurel::Message;
-}
-mod report {
-    pub use degvuurel::Report;
-}
-mod sheet {
-    pub use degvuurel::{RowFields, SheetText};
-}
-mod siting {
-    pub use degvuurel::{Metres, Seconds};
-}
-mod station {
-    pub use degvuurel::{Settings, Station};
-}
+include!("archive/declared.rs");
 
 use compiled::{compiled, package, written_by, LANGUAGES};
-use declared::{Entry, Heads, Made, Presence, Reading, Received, Sited, Taken, Written, Zones};
-use degvuurel::{Island, Message, Metres, Report, RowFields, Seconds, Settings, Station, Track};
+use declared::{Entry, Heads, Made, Presence, Reading, Received, Recorded, Sited, Taken, Written, Zones};
+use degvuurel::{Fault, Island, Message, Metres, Report, RowFields, Seconds, Settings, Station, Track};
+use std::collections::BTreeMap;
 use std::fmt::Write;
 use std::fs;
 use std::mem::{offset_of, size_of};
@@ -72,6 +55,7 @@ fn layout_in_rust() -> String {
     layout!(lines, "message", Message { station, aspect, tracks, digits });
     layout!(lines, "received", Received { answer, message });
     layout!(lines, "written", Written { answer, length });
+    layout!(lines, "recorded", Recorded { fault, line, count });
     lines
 }
 
@@ -96,6 +80,8 @@ fn texts_of(files: &[&str]) -> String {
 fn rattle() -> String {
     texts_of(&[
         "../crates/rules/src/lib.rt",
+        "../crates/rules_plan/src/lib.rt",
+        "../crates/export/src/plans.rt",
         "../crates/export/src/registers.rt",
         "../crates/export/src/screens.rt",
         "../crates/export/src/sheets.rt",
@@ -107,7 +93,7 @@ fn rattle() -> String {
 #[test]
 fn the_structs_are_those_of_the_rattle_sources() {
     let structs = sources::structs_in_source(&rattle());
-    assert_eq!(structs.len(), 19);
+    assert_eq!(structs.len(), 20);
     assert_eq!(sources::structs_in_c(&text_of("include/degvuurel.h")), structs, "in the header");
     let files = ["src/station.rs", "src/report.rs", "src/siting.rs", "src/sheet.rs", "src/message.rs", "src/declared.rs"];
     assert_eq!(sources::structs_in_source(&texts_of(&files)), structs, "in Rust");
@@ -116,7 +102,7 @@ fn the_structs_are_those_of_the_rattle_sources() {
 #[test]
 fn the_functions_are_those_of_the_rattle_sources() {
     let functions = sources::functions_in_source(&rattle());
-    assert_eq!(functions.len(), 29);
+    assert_eq!(functions.len(), 30);
     assert_eq!(sources::functions_in_c(&text_of("include/degvuurel.h")), functions, "in the header");
     // Rust leaves out what it can do without.
     for (name, types) in sources::functions_in_source(&text_of("src/declared.rs")) {
@@ -129,18 +115,33 @@ fn name_in_header(name: &str) -> &str {
     name.trim_start_matches("ISLAND_").trim_start_matches("DETECTOR_").trim_end_matches("_CONDITION")
 }
 
+/// The numbers of a planner's text that go through the door: what is wrong with it, from 0 on. The words that a line begins with
+/// stand before them, and stay within.
+fn faults() -> BTreeMap<String, String> {
+    let source = text_of("../crates/rules_plan/src/lib.rt");
+    let first = source.find("pub const UNDERSTOOD").expect("the faults have names");
+    sources::constants_in_source(&source[first..])
+}
+
 #[test]
 fn the_numbers_are_those_of_the_rattle_sources() {
     let header = text_of("include/degvuurel.h");
     let numbers = sources::constants_in_source(&text_of("../crates/rules/src/lib.rt"));
-    // Seventeen answers, seven kinds, six aspects and three sizes.
-    assert_eq!(numbers.len(), 33);
-    for (name, number) in numbers {
+    // Seventeen answers, seven kinds, six aspects and three sizes; and twelve of a planner's text.
+    assert_eq!((numbers.len(), faults().len()), (33, 12));
+    for (name, number) in numbers.into_iter().chain(faults()) {
         let name = name_in_header(&name);
         let forms =
             [',', ' ', '\n'].map(|end| (format!("DEGVUUREL_{name} = {number}{end}"), format!("DEGVUUREL_{name} {number}{end}")));
         assert!(forms.iter().any(|(answer, size)| header.contains(answer) || header.contains(size)), "{name} is not {number}");
     }
+    for fault in Fault::ALL {
+        let number = faults().into_iter().find(|(name, _)| name.replace('_', "") == format!("{fault:?}").to_uppercase());
+        assert_eq!(number.map(|(_, number)| number), Some(fault.number().to_string()), "{fault:?}");
+    }
+    let recorder = text_of("../crates/recorder/src/lib.rt");
+    assert!(recorder.contains(&format!("pub type RegisterBytes = [u8; {}];", degvuurel::MOST_BYTES)));
+    assert!(recorder.contains(&format!("pub type RowLines = [usize; {}];", degvuurel::MOST)));
     assert!(text_of("../crates/sheet/src/lib.rt").contains(&format!("pub type SheetText = [u8; {}];", degvuurel::SHEET)));
     assert!(header.contains(&format!("DEGVUUREL_SHEET {}\n", degvuurel::SHEET)));
     assert!(header.contains(&format!("DEGVUUREL_MESSAGE {}\n", degvuurel::MESSAGE)));

@@ -1,16 +1,17 @@
-//! What the README shows of the examples is what they write.
+//! What the README shows of Rust and C is what is compiled, run and compared here.
 
+#[path = "c/compiled.rs"]
+mod compiled;
 #[path = "examples/run.rs"]
 mod run;
 
-use run::{run, scratch};
+use compiled::{compiled, package, written_by, LANGUAGES};
+use run::written;
 use std::fs;
-use std::path::Path;
 
 /// A file of the repository, with no blanks at the ends of its lines, as a text in the README has none.
 fn text_of(name: &str) -> String {
-    let file = Path::new(env!("CARGO_MANIFEST_DIR")).join("..").join(name);
-    trimmed(&fs::read_to_string(file).expect("the file is there"))
+    trimmed(&fs::read_to_string(package().join("..").join(name)).expect("the file is there"))
 }
 
 fn trimmed(text: &str) -> String {
@@ -25,31 +26,18 @@ fn shows(lines: &str) {
     assert!(shown.contains(set_in.trim_end()), "the README does not show:\n{set_in}");
 }
 
-/// The first of the lines of a text.
-fn first(lines: usize, text: &str) -> String {
-    text.lines().take(lines).map(|line| line.to_owned() + "\n").collect()
+/// The program under "Use it from Rust" is an example, but for the line that says what it is.
+#[test]
+fn the_program_in_rust() {
+    let example = text_of("host/examples/first.rs");
+    let program = example.find("use ").expect("the example uses the package");
+    shows(&example[program..]);
+    shows(&written("first"));
 }
 
+/// What fill.c writes, under "Use it from C and C++".
 #[test]
-fn recording_printing_and_stepping_back() {
-    let register = scratch("readme.cea");
-    let text = text_of("host/examples/two_trains.txt");
-    let settings = text.find("tracks").expect("the text has settings");
-    shows(&first(13, &text[settings..]));
-    let recorded = run("record", &["examples/two_trains.txt", &register], b"");
-    assert_eq!(recorded.status, 0);
-    shows(&recorded.stderr);
-    let misread = run("record", &[], b"tracks 2\nt1 300\nt2 300\nt3 300\nt4 50\nt5 600\n\nocupied 0 4\n");
-    assert_eq!(misread.status, 1);
-    shows(&misread.stderr);
-    let sheet = run("print_sheet", &[&register], b"");
-    shows(&first(6, &String::from_utf8_lossy(&sheet.stdout)));
-    let stepped = run("step_back", &[&register, "21", "back"], b"");
-    shows(&String::from_utf8_lossy(&stepped.stdout));
-}
-
-#[test]
-fn siting() {
-    let sited = run("siting", &["--message", "6", "120", "140", "155", "400"], b"");
-    shows(&String::from_utf8_lossy(&sited.stdout));
+fn the_program_in_c() {
+    let (compiler, language) = LANGUAGES[0];
+    shows(&written_by(&compiled("readme_fill", compiler, language, &["fill.c"])));
 }

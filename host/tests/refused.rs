@@ -1,25 +1,7 @@
 //! What a refusal returns beside its number, which the wrapper does not hand on. Of making, reading and stepping: a fresh station of
 //! one track, with T1 to T4 equal to 1 and T5 to 2, and count 0. Of a text: zeros and no tracks. Of writing a message: length 0.
 
-// The declarations are the package's own file, which names its structs by these paths.
-#[allow(dead_code)]
-#[path = "../src/declared.rs"]
-mod declared;
-mod message {
-    pub use degvuurel::Message;
-}
-mod report {
-    pub use degvuurel::Report;
-}
-mod sheet {
-    pub use degvuurel::{RowFields, SheetText};
-}
-mod siting {
-    pub use degvuurel::{Metres, Seconds};
-}
-mod station {
-    pub use degvuurel::{Settings, Station};
-}
+include!("archive/declared.rs");
 
 use degvuurel::{Message, Settings, Station};
 use std::fs;
@@ -41,6 +23,8 @@ fn a_refused_making() {
         Settings { t1: 0, ..good },
         Settings { t2: 0, ..good },
         Settings { t3: 0, ..good },
+        Settings { t5: 0, ..good },
+        Settings { t5: 7, ..good },
         Settings { t5: 8, ..good },
     ];
     for settings in bad {
@@ -80,7 +64,7 @@ fn a_refused_message() {
 /// An example with each of its bits turned in turn: most are refused, and each refusal returns the same.
 #[test]
 fn a_refused_reading_and_stepping() {
-    let example = Path::new(env!("CARGO_MANIFEST_DIR")).join("../examples/two_trains.cea");
+    let example = Path::new(env!("CARGO_MANIFEST_DIR")).join("../cases/two_trains.cea");
     let mut bytes = fs::read(example).expect("the example is there");
     let mut refused = [0; 15];
     for bit in 0..bytes.len() * 8 {
@@ -102,6 +86,17 @@ fn a_refused_reading_and_stepping() {
             }
         }
         bytes[bit / 8] ^= 1 << (bit % 8);
+    }
+    // Bytes that are cut or too many: 9, 11 and 12.
+    bytes.resize(65_552, 0);
+    for (length, answer) in [(0, 9), (15, 9), (25, 11), (65_537, 11), (65_544, 12), (65_552, 12)] {
+        // SAFETY: the length is no more than that of the bytes.
+        let [read, step] =
+            unsafe { [declared::degvuurel_read(bytes.as_ptr(), length), declared::degvuurel_step(bytes.as_ptr(), length, 0)] };
+        for reading in [read, step] {
+            let said = (reading.answer, reading.entry, reading.count, reading.station);
+            assert_eq!(said, (answer, 0, 0, least()), "{length} bytes");
+        }
     }
     assert!([8, 9, 10, 13, 14].iter().all(|&answer: &usize| refused[answer] > 100), "{refused:?}");
 }

@@ -119,3 +119,13 @@ pub fn register(settings: Settings, reports: &[Report]) -> Vec<u8> {
     bytes.truncate(filled);
     bytes
 }
+
+/// The planner's text of these reports.
+pub fn text(settings: Settings, reports: &[Report]) -> String {
+    let Settings { tracks, t1, t2, t3, t4, t5 } = settings;
+    let mut text = format!("tracks {tracks}\nt1 {t1}\nt2 {t2}\nt3 {t3}\nt4 {t4}\nt5 {t5}\n");
+    for report in reports {
+        text += &format!("{report}\n");
+    }
+    text
+}

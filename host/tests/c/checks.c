@@ -93,6 +93,7 @@ int main(void) {
     check_stations();
     check_structs();
     check_registers();
+    check_plans();
     check_screens();
     return differences == 0 ? 0 : 1;
 }

@@ -37,6 +37,7 @@ struct degvuurel_station normal(struct degvuurel_settings settings);
 void check_stations(void);
 void check_structs(void);
 void check_registers(void);
+void check_plans(void);
 void check_screens(void);
 
 #endif

@@ -93,11 +93,19 @@ static void of_a_message(void) {
     FIELD(written, length);
 }
 
+static void of_a_plan(void) {
+    WHOLE(recorded);
+    FIELD(recorded, fault);
+    FIELD(recorded, line);
+    FIELD(recorded, count);
+}
+
 int main(void) {
     of_a_station();
     of_a_report();
     of_what_is_shown();
     of_a_register();
     of_a_message();
+    of_a_plan();
     return 0;
 }

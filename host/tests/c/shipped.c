@@ -12,6 +12,10 @@ static uint8_t asked[1 << 17];
 static uint8_t given[1 << 18];
 static uint8_t text[DEGVUUREL_SHEET];
 
+/* Room for the longest register that is recorded, and for its lines. */
+static uint8_t recorded[DEGVUUREL_MOST_BYTES];
+static size_t rows[DEGVUUREL_MOST];
+
 /* The bytes of the call that were taken, and those of the answer that are there. */
 static size_t taken;
 static size_t filled;
@@ -174,6 +178,34 @@ static void print(const uint8_t *bytes, size_t length) {
     untouch(printed);
 }
 
+/* A planner's text: what is said of it, the register and its lines, and how many bytes and lines behind them were written to. */
+static void record(const uint8_t *bytes, size_t length) {
+    struct degvuurel_recorded said;
+    size_t place, filled_bytes, touched = 0;
+    for (place = 0; place < DEGVUUREL_MOST_BYTES; place++) {
+        recorded[place] = UNTOUCHED;
+    }
+    for (place = 0; place < DEGVUUREL_MOST; place++) {
+        rows[place] = UNTOUCHED;
+    }
+    said = degvuurel_record(bytes, length, recorded, rows);
+    filled_bytes = said.fault == DEGVUUREL_UNDERSTOOD ? DEGVUUREL_HEADER + DEGVUUREL_ENTRY * said.count : 0;
+    for (place = filled_bytes; place < DEGVUUREL_MOST_BYTES; place++) {
+        touched += recorded[place] != UNTOUCHED;
+    }
+    for (place = said.count; place < DEGVUUREL_MOST; place++) {
+        touched += rows[place] != UNTOUCHED;
+    }
+    give(said.fault, 1);
+    give(said.line, 8);
+    give(said.count, 8);
+    give_bytes(recorded, filled_bytes);
+    for (place = 0; place < said.count; place++) {
+        give(rows[place], 8);
+    }
+    give(touched, 8);
+}
+
 /* A letter that is none is answered by nothing, which no call expects. */
 static void answer(void) {
     const uint8_t letter = (uint8_t)take(1);
@@ -191,6 +223,7 @@ static void answer(void) {
     case 'f': give_reading(degvuurel_forward(bytes, length, row)); break;
     case 'b': give_reading(degvuurel_back(bytes, length, row)); break;
     case 'p': print(bytes, length); break;
+    case 't': record(bytes, length); break;
     }
 }
 

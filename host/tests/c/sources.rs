@@ -26,6 +26,7 @@ fn type_in_c(text: &str) -> String {
     match words[..] {
         ["const", "uint8_t", "*", ..] => "*const u8".to_string(),
         ["uint8_t", "*", ..] => "*mut u8".to_string(),
+        ["size_t", "*", ..] => "*mut usize".to_string(),
         ["struct", name, ..] => struct_name(name),
         ["size_t", ..] => "usize".to_string(),
         _ => words.first().map_or(String::new(), |plain| plain.trim_end_matches("_t").replace("uint", "u")),
@@ -100,7 +101,8 @@ fn type_in_source(parameter: &str) -> Vec<String> {
     let words: &[&str] = match kind {
         "&[u8]" => &["*const u8", "usize"],
         "&mut [u8]" => &["*mut u8", "usize"],
-        "&mut SheetText" | "*mut SheetText" => &["*mut u8"],
+        "&mut SheetText" | "*mut SheetText" | "&mut RegisterBytes" | "*mut RegisterBytes" => &["*mut u8"],
+        "&mut RowLines" | "*mut RowLines" => &["*mut usize"],
         plain => &[plain],
     };
     words.iter().map(ToString::to_string).collect()

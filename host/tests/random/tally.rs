@@ -1,6 +1,7 @@
 //! How often each answer was seen, by what was asked.
 
-use degvuurel::{Answer, Aspect};
+use crate::plan::FAULTS;
+use degvuurel::{Answer, Aspect, Fault};
 
 /// What is asked of both sides.
 #[derive(Clone, Copy)]
@@ -47,6 +48,8 @@ pub const OF_SCREENS: &Possible = &[(Asked::Screen, &[0, 15, 16]), (Asked::Write
 pub struct Tally {
     seen: [[u64; ANSWERS]; KINDS],
     aspects: [u64; ASPECTS],
+    /// Planner's texts by their fault; 0 is none.
+    pub texts: [u64; FAULTS],
     pub registers: u64,
     pub stations: u64,
     pub reports: u64,
@@ -73,6 +76,9 @@ impl Tally {
         for (sum, count) in self.aspects.iter_mut().zip(&other.aspects) {
             *sum += count;
         }
+        for (sum, count) in self.texts.iter_mut().zip(&other.texts) {
+            *sum += count;
+        }
         self.registers += other.registers;
         self.stations += other.stations;
         self.reports += other.reports;
@@ -97,6 +103,22 @@ impl Tally {
             self.seen.iter().for_each(|counts| print!("{:>10}", counts[answer]));
             println!();
         }
+    }
+
+    /// A line for each fault of planner's texts.
+    pub fn print_faults(&self, title: &str) {
+        println!("{title}: {}", self.texts.iter().sum::<u64>());
+        for (number, times) in (0..).zip(self.texts) {
+            let words = Fault::of(number).map_or("recorded".to_owned(), |fault| fault.to_string());
+            println!("{number:>6}{times:>11}  {words}");
+        }
+    }
+
+    /// The faults, and none, that were found less often than they must be. A report too many has a least of its own.
+    pub fn rare_faults(&self, least: u64, least_too_many: u64) -> Vec<String> {
+        let least_of = |fault| if fault == usize::from(Fault::TooManyReports.number()) { least_too_many } else { least };
+        let few = (0..FAULTS).filter(|&fault| self.texts[fault] < least_of(fault));
+        few.map(|fault| format!("fault {fault} of planner's texts was found less than {} times", least_of(fault))).collect()
     }
 
     /// The answers that were seen less often than they must be.

@@ -1,0 +1,61 @@
+//! What a case has typed of a register, from what the package gives.
+
+use degvuurel::{report_in, Answer, Plan, Refusal, Register, Station};
+
+/// The refused reports with their lines, and how many there are.
+pub fn told(plan: &Plan) -> String {
+    let (mut told, mut refused) = (String::new(), 0);
+    for row in 1..=plan.count() {
+        let entry = plan.register().entry(row).expect("the row has an entry");
+        if entry[6] != 0 {
+            let line = plan.line_of(row).expect("the row has a line");
+            told += &format!("line {line}: refused {}; entered as row {row}\n", answer(entry, ": "));
+            refused += 1;
+        }
+    }
+    told + &format!("{} reports entered, {refused} of them refused\n", plan.count())
+}
+
+/// An entry's answer, as a number and in words.
+fn answer(entry: &[u8], between: &str) -> String {
+    let words = Answer::of(entry[6]).map_or(String::new(), |answer| answer.to_string());
+    format!("{}{between}{words}", entry[6])
+}
+
+/// A row as it is stepped to, or that it is refused.
+pub fn row(register: Register, row: usize) -> String {
+    shown(register, row).unwrap_or_else(|refusal| format!("row       {row}\nrefused   {}\n\n", refusal.number()))
+}
+
+fn shown(register: Register, row: usize) -> Result<String, Refusal> {
+    let station = register.browse().to_row(row)?;
+    let entered = match row {
+        0 => "none, the fresh station".to_owned(),
+        _ => {
+            let entry = register.entry(row)?;
+            format!("{}\nanswer    {}", report_in(entry), answer(entry, " "))
+        }
+    };
+    let aspect = station.aspect();
+    let [head_0, head_1] = station.heads();
+    let zones: String = station.zones().iter().map(ToString::to_string).collect();
+    let lines = [
+        format!("row       {row}"),
+        format!("report    {entered}"),
+        format!("aspect    {} {aspect}", aspect.number()),
+        format!("heads     {head_0} {head_1}"),
+        format!("zones     {zones}"),
+        format!("presence  {}\n\n", present(&station)),
+    ];
+    Ok(lines.join("\n"))
+}
+
+/// The tracks that count for the greatest risk.
+fn present(station: &Station) -> String {
+    let tracks: Vec<String> = (0..4).filter(|&track| station.presence()[track]).map(|track| track.to_string()).collect();
+    match tracks.len() {
+        0 => "no track".to_owned(),
+        1 => format!("track {}", tracks[0]),
+        _ => format!("tracks {}", tracks.join(" ")),
+    }
+}
