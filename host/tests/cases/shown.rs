@@ -13,7 +13,8 @@ pub fn told(plan: &Plan) -> String {
             refused += 1;
         }
     }
-    told + &format!("{} reports entered, {refused} of them refused\n", plan.count())
+    let reports = if plan.count() == 1 { "report" } else { "reports" };
+    told + &format!("{} {reports} entered, {refused} of them refused\n", plan.count())
 }
 
 /// An entry's answer, as a number and in words.
