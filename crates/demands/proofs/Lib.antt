@@ -17,6 +17,7 @@ pub mod Quiet
 pub mod QuietRows
 pub mod Reached
 pub mod ReadBack
+pub mod RecordedBack
 pub mod Refusal
 pub mod RegisterBytes
 pub mod RegisterLaws
@@ -29,4 +30,6 @@ pub mod ScreensStated
 pub mod SheetBack
 pub mod Stated
 pub mod StationMessage
+pub mod TextEntered
+pub mod TextUnderstood
 pub mod ValueForms

@@ -7,6 +7,7 @@ pub mod IdleReaders
 pub mod Quiet
 pub mod QuietRows
 pub mod ReadBack
+pub mod RecordedBack
 pub mod Refusal
 pub mod Screens
 pub mod Stated

@@ -1,14 +1,3 @@
-pub mod Pieces
-pub mod Running
-pub mod Matching
-pub mod Naming
-pub mod Worded
-pub mod Spanned
-pub mod Numbered
-pub mod Mosts
-pub mod Filled
-pub mod SixFaults
-pub mod Spoken
 pub mod SixGiven
 pub mod OneLineMore
 pub mod LineFaults

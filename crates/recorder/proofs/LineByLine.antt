@@ -9,9 +9,9 @@ use borrow.Author.Tests.{ltb-false, ltb-true}
 use lib.Dec.{ltb}
 use lib.ListN.{drop, drop-of-length-le, length, length-drop, take}
 use lib.Seq.{drop-drop, take-all}
-use Rattle.recorder.proofs.Pieces.{first-piece}
+use Rattle.plan_lines.proofs.Pieces.{first-piece}
 use Rattle.recorder.specs.FirstLine.{FirstLine}
-use Rattle.recorder.specs.Leading.{leading, notLineFeed}
+use Rattle.plan_lines.specs.Leading.{leading, notLineFeed}
 use Rattle.rules_plan.specs.Lines.{lineOf}
 use Rattle.rules_plan.specs.Words.{lineFeed, lines}
 use Rattle.rules_plan.specs.declared.Line.{Line}

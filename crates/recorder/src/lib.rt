@@ -1,13 +1,9 @@
 // The recorder: a planner's text goes in, a register comes out. What a text means is told by rules_plan.
 mod checking;
 mod filling;
-mod lines;
-mod names;
-mod numbers;
 mod parting;
 mod recording;
 mod saying;
-mod words;
 
 pub use recording::record;
 

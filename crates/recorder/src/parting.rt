@@ -6,8 +6,8 @@ ghost use lib.Dec.{ltb};
 ghost use lib.ListN.{drop, length};
 ghost use Rattle.recorder.specs.FirstLine.{FirstLine};
 ghost use Rattle.rules_plan.specs.Words.{unmarked};
-use crate::lines::line_in;
-use crate::words::before_line_feed;
+use plan_lines::before_line_feed;
+use plan_lines::line_in;
 use rules_plan::Line;
 
 // Where the first line begins: behind the byte order mark, if there is one.

@@ -37,7 +37,7 @@ pub const OTHER_WORD: u8 = 14;
 
 pub const NO_WORD: u8 = 15;
 
-// What is wrong with a line, in the order in which it is tested, or with the text when it ends.
+// What is wrong with a line, or with the text when it ends.
 pub const UNDERSTOOD: u8 = 0;
 
 pub const NOT_A_NAME: u8 = 1;

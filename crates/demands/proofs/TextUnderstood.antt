@@ -1,0 +1,123 @@
+-- A planner's text with nothing wrong: its settings are within their limits, and its reports were counted one by one.
+-- Assumes nothing.
+use Prim.Native.Nat.{ℕ, suc, _+_, _≤_}
+use native.Mathlib.Omega.{arith}
+use mathlib.Core.Path.{_≡_, refl, sym, ap, subst, _∙_}
+use mathlib.Core.Bool.{Bool, true, false, false≢true, true≢false, cond, not, _&&_}
+use mathlib.Core.List.{List, [], _∷_}
+use borrow.Author.Tests.{eqb-true, leb-false, lt-leb, ltb-true, not-false}
+use lib.Dec.{eqb, leb, ltb}
+use lib.ListN.{length, set}
+use Rattle.chains.proofs.Chains.{both-done, passed, where-done}
+use Rattle.demands.specs.RecordedBack.{reportsIn}
+use Rattle.rules.specs.Station.{withinLimits}
+use Rattle.rules.specs.declared.Report.{Report}
+use Rattle.rules_plan.specs.Faults.{allGiven, checked, checkedFrom, lineFault, nothingSaid, withLine, withSetting}
+use Rattle.rules_plan.specs.Lines.{isReport, isSetting, lineOf}
+use Rattle.rules_plan.specs.Words.{lines, unmarked}
+use Rattle.rules_plan.specs.declared.Checked.{Checked}
+use Rattle.rules_plan.specs.declared.Line.{Line}
+use Rattle.rules_plan.specs.declared.Said.{Said}
+
+-- What has been said can be recorded: settings, once all are given, and reports.
+record Sound (s : Said) : Type 0 where
+  within : allGiven s ≡ true → withinLimits (s .settings) ≡ true
+  few : s .reports ≤ 8190
+
+sound-at-first : Sound nothingSaid
+unfolding allGiven nothingSaid
+sound-at-first = record { within = λ e. absurd (false≢true e); few = omega arith }
+
+-- ---- one line
+
+module _ (s : Said) (l : Line) where
+  -- a line is a setting, a report, or neither
+  abbrev after : Bool → Bool → Said
+  after setting report =
+      cond
+      setting
+      (record { given = set (s .given) (l .name) true; settings = withSetting (s .settings) l; reports = s .reports })
+      (record { given = s .given; settings = s .settings; reports = cond report (suc (s .reports)) (s .reports) })
+
+  -- The line that completes the settings is refused where they are outside their limits, and a report where there are
+  -- 8,190 already.
+  by-kind : (setting report : Bool) → Sound s
+      → (setting && allGiven (after setting report) && not (withinLimits (after setting report .settings))) ≡ false
+      → (report && leb 8190 (s .reports)) ≡ false
+      → Sound (after setting report)
+  unfolding allGiven
+  by-kind true report h e f =
+      let now = after true report in
+      record {
+        within = λ g. not-false _ (sym (ap (λ (t : Bool). t && not (withinLimits (now .settings))) g) ∙ e);
+        few = h .few;
+      }
+  by-kind false true h e f = record { within = h .within; few = omega (arith, leb-false 8190 (s .reports) f) }
+  by-kind false false h e f = record { within = h .within; few = h .few }
+
+  sound-after : Sound s → lineFault s l ≡ 0 → Sound (withLine s l)
+  unfolding lineFault withLine
+  sound-after h e =
+      let in-place = passed 6 _ _ (passed 5 _ _ (both-done (l .fault) _ e .1) .1) .1 in
+      let completes = passed 8 _ _ in-place in
+      let counts = passed 9 _ _ (passed 7 _ _ (completes .1) .1) in
+      by-kind (isSetting l) (isReport l) h (completes .0) (counts .0)
+
+  no-setting : (setting : Bool) → isSetting l ≡ setting → isReport l ≡ true → setting ≡ false
+  no-setting true e f = absurd (false≢true (sym (ap (λ (t : Bool). t && ltb (l .name) 14) before) ∙ f))
+    where
+      before : leb 6 (l .name) ≡ false
+      before = lt-leb 6 (l .name) (ltb-true (l .name) 6 e)
+  no-setting false e f = refl
+
+  -- one report more than before, where the line is one
+  one-more : (rest : List Report)
+      → withLine s l .reports + length rest ≡ s .reports + length (cond (isReport l) (l .numbers ∷ rest) rest)
+  unfolding withLine
+  one-more rest = go (isSetting l) (isReport l) (no-setting (isSetting l) refl)
+    where
+      go : (setting report : Bool) → (report ≡ true → setting ≡ false)
+          → after setting report .reports + length rest ≡ s .reports + length (cond report (l .numbers ∷ rest) rest)
+      go true true h = absurd (true≢false (h refl))
+      go true false h = refl
+      go false true h = omega arith
+      go false false h = refl
+
+-- ---- line by line
+
+-- what the lines have said in the end
+pub record Understood (s : Said) (ls : List (List ℕ)) (found : Said) : Type 0 where
+  pub settings : withinLimits (found .settings) ≡ true
+  pub reports : found .reports ≡ s .reports + length (reportsIn ls)
+  pub few : found .reports ≤ 8190
+
+line-understood : (n : ℕ) (on stop : Checked) → stop .fault ≡ n → cond (eqb n 0) on stop .fault ≡ 0 → n ≡ 0
+line-understood n on stop h e = go (eqb n 0) refl e
+  where
+    go : (t : Bool) → eqb n 0 ≡ t → cond t on stop .fault ≡ 0 → n ≡ 0
+    go true q e = eqb-true n 0 q
+    go false q e = sym h ∙ e
+
+understood-from : (line : ℕ) (s : Said) (ls : List (List ℕ)) → Sound s → checkedFrom line s ls .fault ≡ 0
+    → Understood s ls (checkedFrom line s ls .said)
+unfolding checkedFrom reportsIn
+understood-from line s [] h e =
+    record {
+      settings = h .within (not-false (allGiven s) (passed 10 (not (allGiven s)) 0 e .0));
+      reports = omega arith;
+      few = h .few;
+    }
+understood-from line s (l ∷ ls) h e =
+    let found = lineOf l in
+    let next = withLine s found in
+    let z = line-understood (lineFault s found) _ _ refl e in
+    let on : checkedFrom line s (l ∷ ls) ≡ checkedFrom (suc line) next ls = where-done (lineFault s found) _ _ z in
+    let fine = sym (ap (λ (c : Checked). c .fault) on) ∙ e in
+    let rest = understood-from (suc line) next ls (sound-after s found h z) fine in
+    subst (λ (c : Checked). Understood s (l ∷ ls) (c .said)) (sym on)
+    (record { settings = rest .settings; reports = rest .reports ∙ one-more s found (reportsIn ls); few = rest .few })
+
+pub text-understood : (text : List ℕ) → checked text .fault ≡ 0
+    → Understood nothingSaid (lines (unmarked text)) (checked text .said)
+unfolding checked
+text-understood text e = understood-from 1 nothingSaid (lines (unmarked text)) sound-at-first e
