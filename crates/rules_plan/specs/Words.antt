@@ -6,6 +6,7 @@ use lib.Dec.{eqb}
 use lib.ListN.{drop, getD, take}
 use Rattle.rules.specs.Screen.{isEmpty, same}
 use Rattle.rules.specs.Words.{within}
+use Rattle.rules_json.specs.Abnf.{octets}
 
 -- ---- pieces
 
@@ -66,30 +67,20 @@ lower b = cond (within 65 90 b) (b + 32) b
 
 abbrev pub names : List (List ℕ)
 names =
-    -- tracks
-    (116 ∷ 114 ∷ 97 ∷ 99 ∷ 107 ∷ 115 ∷ [])
-    -- t1, t2, t3, t4, t5
-    ∷ (116 ∷ 49 ∷ [])
-    ∷ (116 ∷ 50 ∷ [])
-    ∷ (116 ∷ 51 ∷ [])
-    ∷ (116 ∷ 52 ∷ [])
-    ∷ (116 ∷ 53 ∷ [])
-    -- occupied
-    ∷ (111 ∷ 99 ∷ 99 ∷ 117 ∷ 112 ∷ 105 ∷ 101 ∷ 100 ∷ [])
-    -- free
-    ∷ (102 ∷ 114 ∷ 101 ∷ 101 ∷ [])
-    -- clock
-    ∷ (99 ∷ 108 ∷ 111 ∷ 99 ∷ 107 ∷ [])
-    -- failed
-    ∷ (102 ∷ 97 ∷ 105 ∷ 108 ∷ 101 ∷ 100 ∷ [])
-    -- restored
-    ∷ (114 ∷ 101 ∷ 115 ∷ 116 ∷ 111 ∷ 114 ∷ 101 ∷ 100 ∷ [])
-    -- head
-    ∷ (104 ∷ 101 ∷ 97 ∷ 100 ∷ [])
-    -- normalise
-    ∷ (110 ∷ 111 ∷ 114 ∷ 109 ∷ 97 ∷ 108 ∷ 105 ∷ 115 ∷ 101 ∷ [])
-    -- report
-    ∷ (114 ∷ 101 ∷ 112 ∷ 111 ∷ 114 ∷ 116 ∷ [])
+    octets "tracks"
+    ∷ octets "t1"
+    ∷ octets "t2"
+    ∷ octets "t3"
+    ∷ octets "t4"
+    ∷ octets "t5"
+    ∷ octets "occupied"
+    ∷ octets "free"
+    ∷ octets "clock"
+    ∷ octets "failed"
+    ∷ octets "restored"
+    ∷ octets "head"
+    ∷ octets "normalise"
+    ∷ octets "report"
     ∷ []
 
 -- the place of a word among others, counted from 0; past the last where it is none of them
