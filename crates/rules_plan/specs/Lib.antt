@@ -6,3 +6,5 @@ pub mod Lines
 pub mod Faults
 -- What is recorded of a text
 pub mod Recording
+-- What tries it
+pub mod rows

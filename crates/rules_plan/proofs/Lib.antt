@@ -1,0 +1,5 @@
+pub mod Computed
+pub mod WordRows
+pub mod LineRows
+pub mod FaultRows
+pub mod RecordingRows
