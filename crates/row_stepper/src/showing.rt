@@ -59,41 +59,18 @@ fn entered(entry: &[u8]) -> bool {
     report(register::report_in(entry)) & answer(entry[6])
 }
 
+// The outputs of each head, in columns as a sheet has them: a blank stands behind each.
 fn heads(after: Station) -> bool {
     let shown = station::heads(after);
-    let first = nine(shown[0]);
-    let second = nine(shown[1]);
-    line(b"heads     ", &first, b" ", &second)
+    let first = sheet::output_column(shown[0]);
+    let second = sheet::output_column(shown[1]);
+    line(b"heads     ", &first, &second[..9], b"")
 }
 
-// Nine outputs from VF to S4.
-fn nine(outputs: u16) -> [u8; 9] {
-    [
-        digit(outputs % 2 == 1),
-        digit(outputs / 2 % 2 == 1),
-        digit(outputs / 4 % 2 == 1),
-        digit(outputs / 8 % 2 == 1),
-        digit(outputs / 16 % 2 == 1),
-        digit(outputs / 32 % 2 == 1),
-        digit(outputs / 64 % 2 == 1),
-        digit(outputs / 128 % 2 == 1),
-        digit(outputs / 256 % 2 == 1),
-    ]
-}
-
+// The five digits of a sheet's column, which has a blank on both sides.
 fn zones(digits: ZoneDigits) -> bool {
-    let five = [
-        digit(digits[0] == 1),
-        digit(digits[1] == 1),
-        digit(digits[2] == 1),
-        digit(digits[3] == 1),
-        digit(digits[4] == 1),
-    ];
-    line(b"zones     ", &five, b"", b"")
-}
-
-fn digit(one: bool) -> u8 {
-    if one { b'1' } else { b'0' }
+    let column = sheet::zone_column(digits);
+    line(b"zones     ", &column[1..6], b"", b"")
 }
 
 // The tracks that count for the greatest risk.

@@ -68,7 +68,7 @@ pub fn refusal_line(out: &mut [u8], answer: u8, entry: u64) -> usize
 }
 
 // The five zone digits, with the spaces on both sides.
-fn zone_column(zones: ZoneDigits) -> [u8; 7]
+pub fn zone_column(zones: ZoneDigits) -> [u8; 7]
     ensures { λ r. ⌜ r ≡ space ++ zoneText zones ++ space ⌝ }
 {
     [
@@ -83,7 +83,7 @@ fn zone_column(zones: ZoneDigits) -> [u8; 7]
 }
 
 // The nine output digits from VF to S4, with the space after them.
-fn output_column(outputs: u16) -> [u8; 10]
+pub fn output_column(outputs: u16) -> [u8; 10]
     ensures { λ r. ⌜ r ≡ outputText outputs ++ space ⌝ }
 {
     [
