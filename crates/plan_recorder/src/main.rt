@@ -21,7 +21,6 @@ fn main() {
     let mut text = [0u8; 262145];
     let length = io::read_full(STDIN_FILENO, &mut text);
     if verb::input_failed() {
-        verb::ended(true, verb::FAILED);
         return;
     }
     if MOST_TEXT < length {
@@ -41,18 +40,23 @@ fn recorded(text: &[u8]) {
         verb::ended(true, verb::REFUSED);
         return;
     }
-    telling::told(&register, &rows, outcome.count);
-    written(&register, outcome.count);
+    // What was entered is told once it is written.
+    let written = written(&register, outcome.count);
+    if written {
+        telling::told(&register, &rows, outcome.count);
+    }
+    verb::ended(written, verb::DONE);
 }
 
-fn written(register: &RegisterBytes, count: usize) {
-    filled_bytes(register, count);
+// A function of its own, since the length of an array is known by a parameter's type.
+fn written(register: &RegisterBytes, count: usize) -> bool {
+    filled_bytes(register, count)
 }
 
-// Exactly the filled bytes.
-fn filled_bytes(register: &[u8], count: usize) {
+// Writes exactly the filled bytes.
+fn filled_bytes(register: &[u8], count: usize) -> bool {
     let length = io::count(filled(count) as isize, register);
-    verb::ended(verb::write(&register[..length]), verb::DONE);
+    verb::write(&register[..length])
 }
 
 fn filled(count: usize) -> usize

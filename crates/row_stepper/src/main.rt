@@ -14,7 +14,6 @@ fn main() {
     let mut input = [0u8; 65537];
     let length = io::read_full(STDIN_FILENO, &mut input);
     if verb::input_failed() {
-        verb::ended(true, verb::FAILED);
         return;
     }
     rows(&input[..length]);

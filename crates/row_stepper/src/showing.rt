@@ -2,20 +2,12 @@
 use crate::reports::report;
 use crate::words::answer;
 use crate::words::aspect;
+use crate::words::line;
+use crate::words::refused;
 use rules::NOT_REPLAYED;
 use rules::Station;
 use rules::TrackPresence;
 use rules::ZoneDigits;
-
-// Room for any line.
-const LINE: usize = 80;
-
-// Writes a line of a label and three texts.
-pub(crate) fn line(label: &[u8], first: &[u8], second: &[u8], third: &[u8]) -> bool {
-    let mut text = [0u8; LINE];
-    let length = text::in_a_row(&mut text, label, first, second, third, b"\n");
-    verb::write(&text[..length])
-}
 
 // The row's number, as it was asked for.
 pub(crate) fn named(word: &[u8]) -> bool {
@@ -24,21 +16,23 @@ pub(crate) fn named(word: &[u8]) -> bool {
 
 // What the row is refused with. The entry is named where the answer is 13.
 pub(crate) fn refusal(answer: u8, entry: u64) -> bool {
-    let mut number = [0u8; 20];
-    let length = io::decimal(answer as u64, &mut number);
-    let mut place = [0u8; 20];
-    let place_length = io::decimal(entry, &mut place);
     let said = if answer == NOT_REPLAYED {
-        line(
-            b"refused   ",
-            &number[..length],
-            b" at ",
-            &place[..place_length],
-        )
+        not_replayed(entry)
     } else {
-        line(b"refused   ", &number[..length], b"", b"")
+        refused(answer)
     };
     said & verb::write(b"\n")
+}
+
+fn not_replayed(entry: u64) -> bool {
+    let mut place = [0u8; 20];
+    let length = io::decimal(entry, &mut place);
+    line(
+        b"refused   13 at ",
+        &place[..length],
+        b": the entry's answer or aspect is not what the replay gives",
+        b"",
+    )
 }
 
 // The row's entry, and what its station shows.

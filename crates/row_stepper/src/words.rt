@@ -1,18 +1,32 @@
-// Answers and aspects, by number and name. Each is written where it stands: a text cannot be returned.
-use crate::showing::line;
+// Lines, and answers and aspects by number and name. Each is written where it stands: a text cannot be returned.
 use rules::ALREADY_SO;
 use rules::BAD_FIELD;
 use rules::CLEARING;
+use rules::CUT_ENTRY;
 use rules::DONE;
 use rules::FORBIDDEN;
 use rules::GREATEST_RISK;
+use rules::NO_ROOM;
 use rules::NO_SUCH_HEAD;
 use rules::NO_SUCH_ISLAND;
 use rules::NO_SUCH_KIND;
 use rules::NO_SUCH_TRACK;
+use rules::NOT_A_REGISTER;
 use rules::NOT_CLEAR;
+use rules::OTHER_VERSION;
+use rules::OUTSIDE_LIMITS;
 use rules::PERMITTED;
 use rules::SURROUNDINGS;
+
+// Room for any line.
+const LINE: usize = 80;
+
+// Writes a line of a label and three texts.
+pub(crate) fn line(label: &[u8], first: &[u8], second: &[u8], third: &[u8]) -> bool {
+    let mut text = [0u8; LINE];
+    let length = text::in_a_row(&mut text, label, first, second, third, b"\n");
+    verb::write(&text[..length])
+}
 
 // The answer of an entry: no other than 0 to 7 is entered.
 pub(crate) fn answer(number: u8) -> bool {
@@ -31,6 +45,22 @@ pub(crate) fn answer(number: u8) -> bool {
 
 fn answered(number: &[u8], words: &[u8]) -> bool {
     line(b"answer    ", number, words, b"")
+}
+
+// What stepping is refused with, but for 13, which names an entry.
+pub(crate) fn refused(number: u8) -> bool {
+    match number {
+        OUTSIDE_LIMITS => why(b"8", b": a setting is outside its limits"),
+        NOT_A_REGISTER => why(b"9", b": not a register"),
+        OTHER_VERSION => why(b"10", b": a register of another version"),
+        CUT_ENTRY => why(b"11", b": the last entry is cut"),
+        NO_ROOM => why(b"12", b": too many entries"),
+        _ => why(b"14", b": no such row"),
+    }
+}
+
+fn why(number: &[u8], words: &[u8]) -> bool {
+    line(b"refused   ", number, words, b"")
 }
 
 pub(crate) fn aspect(number: u8) -> bool {

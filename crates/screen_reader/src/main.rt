@@ -10,7 +10,6 @@ fn main() {
     let mut input = [0u8; 4097];
     let length = io::read_full(STDIN_FILENO, &mut input);
     if verb::input_failed() {
-        verb::ended(true, verb::FAILED);
         return;
     }
     let received = screen::read(&input[..length]);

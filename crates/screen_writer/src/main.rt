@@ -26,7 +26,6 @@ fn main() {
     let mut input = [0u8; 65537];
     let given = io::read_full(STDIN_FILENO, &mut input);
     if verb::input_failed() {
-        verb::ended(true, verb::FAILED);
         return;
     }
     told(number as u16, &input[..given]);

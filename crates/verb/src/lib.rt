@@ -7,21 +7,25 @@ use libc::STDERR_FILENO;
 use libc::STDIN_FILENO;
 use libc::STDOUT_FILENO;
 
-// All was done; it was refused; input or output failed.
+// All was done; something was refused; the input cannot be read; the output cannot be written.
 pub const DONE: u8 = 0;
 
 pub const REFUSED: u8 = 1;
 
-pub const FAILED: u8 = 3;
+const NOT_READ: u8 = 2;
+
+const NOT_WRITTEN: u8 = 3;
 
 const STATUS_FILENO: i32 = 3;
 
 // Whether the input, read as far as it went, ended because it could not be read on: a reading that
-// fails looks like the end of what is read, and a part would be taken for the whole.
+// fails looks like the end of what is read, and a part would be taken for the whole. That is then how
+// it went, and nothing is left to do.
 pub fn input_failed() -> bool {
     let mut one = [0u8; 1];
     if libc::read(STDIN_FILENO, &mut one) < 0 {
         os::fail(b"the input cannot be read");
+        say(NOT_READ);
         return true;
     }
     false
@@ -46,7 +50,7 @@ pub fn tell_number(number: usize) {
 pub fn ended(written: bool, status: u8) {
     if !written {
         os::fail(b"the output cannot be written");
-        say(FAILED);
+        say(NOT_WRITTEN);
         return;
     }
     say(status);
@@ -66,6 +70,7 @@ fn digit(status: u8) {
     match status {
         DONE => io::write_all(STATUS_FILENO, b"0"),
         REFUSED => io::write_all(STATUS_FILENO, b"1"),
+        NOT_READ => io::write_all(STATUS_FILENO, b"2"),
         _ => io::write_all(STATUS_FILENO, b"3"),
     }
     ;

@@ -25,7 +25,8 @@ fn answer(entry: &[u8], between: &str) -> String {
 
 /// A row as it is stepped to, or that it is refused.
 pub fn row(register: Register, row: usize) -> String {
-    shown(register, row).unwrap_or_else(|refusal| format!("row       {row}\nrefused   {}\n\n", refusal.number()))
+    let refused = |refusal: Refusal| format!("row       {row}\nrefused   {}: {}\n\n", refusal.number(), refusal.answer());
+    shown(register, row).unwrap_or_else(refused)
 }
 
 fn shown(register: Register, row: usize) -> Result<String, Refusal> {

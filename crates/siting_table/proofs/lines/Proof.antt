@@ -7,19 +7,16 @@ use Rattle.siting_table.proofs.lines.Statement.{statement}
 use Rattle.siting_table.proofs.lines.Tie as tie
 
 abbrev Inv-loop : tie.InvT-loop
-Inv-loop message words word₀ written₀ word written = Unit {0}
+Inv-loop message words word₀ refused₀ written₀ word refused written = Unit {0}
 
 abbrev μ-loop : tie.MeasureT-loop
-μ-loop message words word₀ written₀ word written = words - word
+μ-loop message words word₀ refused₀ written₀ word refused written = words - word
 
 arg-count-requires : tie.Need-arg-count-requires Inv-loop μ-loop
 arg-count-requires c κs = tt
 
 loop-holds : tie.Need-loop-holds Inv-loop μ-loop
 loop-holds c = tt
-
-number-requires : tie.Need-number-requires Inv-loop μ-loop
-number-requires c κs = tt
 
 line-requires : tie.Need-line-requires Inv-loop μ-loop
 line-requires c κs = tt
@@ -44,7 +41,6 @@ lines-spec =
     μ-loop
     arg-count-requires
     loop-holds
-    number-requires
     line-requires
     add-word
     loop-less
