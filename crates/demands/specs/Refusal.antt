@@ -1,8 +1,8 @@
 -- Demand 1: "A refusal leaves the station and every buffer as they were, except that a report refused by 1 to 7 still gets its row." A refusal is any
 -- number but 0 that is returned; of a printed text the length is returned, and 0 where it does not fit. A station is handed in with a report, taken or
--- appended; a buffer is lent in starting, appending, printing, writing a message and recording a planner's text; a browser is moved. Making, reading and
--- stepping are handed no station: refused, they return the least one. (Exception: what is printed of a register that cannot be read is the text that was
--- asked for, and is written into the buffer lent for it.)
+-- appended; a buffer is lent in starting, appending, printing, writing a message and recording a planner's text; a browser is moved. Making, reading
+-- and stepping are handed no station: refused, they return the least one. (Exception: what is printed of a register that cannot be read is the text
+-- that was asked for, and is written into the buffer lent for it.)
 use Prim.Native.Nat.{ℕ, _+_, _≤_, _<_}
 use mathlib.Core.Path.{_≡_}
 use mathlib.Core.List.{List}
