@@ -32,4 +32,6 @@ pub mod Stated
 pub mod StationMessage
 pub mod TextEntered
 pub mod TextUnderstood
+pub mod TextWords
+pub mod Texts
 pub mod ValueForms

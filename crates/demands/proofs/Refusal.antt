@@ -12,6 +12,7 @@ use Rattle.browser.specs.declared.Browser.{Browser}
 use Rattle.chains.proofs.Chains.{group-so, test-so}
 use Rattle.demands.proofs.BrowseBack.{refused-stays}
 use Rattle.demands.proofs.Exactly.{in-its-case}
+use Rattle.demands.proofs.RecordedBack.{misread-leaves}
 use Rattle.demands.proofs.RegisterLaws.{append-applies, append-elsewhere, append-enters-refused, append-refused, start-refused}
 use Rattle.demands.proofs.Screens.{writes}
 use Rattle.demands.proofs.Stated.{append-within, stated-report}
@@ -27,6 +28,7 @@ use Rattle.rules.specs.declared.Report.{Report}
 use Rattle.rules.specs.declared.Settings.{Settings}
 use Rattle.rules.specs.declared.Station.{Station}
 use Rattle.rules.specs.declared.Taken.{Taken}
+use Rattle.rules_plan.specs.Recording.{recordedOf}
 
 -- what appending tests before the report has 8 and above alone
 eight-up : (b : List ℕ) (k : ℕ) (c : Settings) → (appendAnswer b k c ≡ 0 → ⊥) → 8 ≤ appendAnswer b k c
@@ -85,7 +87,7 @@ not-written text b = go (fits text b) text
     go true (x ∷ l) e = let none : ⊥ = omega arith in absurd none
 
 pub refusal-leaves : RefusalLeaves
-unfolding taken stepOf readingOf
+unfolding taken stepOf readingOf recordedOf
 refusal-leaves =
     record {
       report = after-refused;
@@ -93,5 +95,6 @@ refusal-leaves =
       appending = append-leaves;
       printing = not-written;
       writing = λ m b h. writes .refused m b h .1;
+      recording = λ text b rows h. let left = misread-leaves text h in (left .bytes b, left .rows rows);
       moving = refused-stays;
     }

@@ -11,3 +11,4 @@ pub mod RecordedBack
 pub mod Refusal
 pub mod Screens
 pub mod Stated
+pub mod Texts

@@ -1,8 +1,8 @@
 -- Demand 1: "A refusal leaves the station and every buffer as they were, except that a report refused by 1 to 7 still gets its row." A refusal is any
 -- number but 0 that is returned; of a printed text the length is returned, and 0 where it does not fit. A station is handed in with a report, taken or
--- appended; a buffer is lent in starting, appending, printing and writing a message; a browser is moved. Making, reading and stepping are handed no station: refused, they
--- return the least one. (Exception: what is printed of a register that cannot be read is the text that was asked for, and is written into the buffer lent
--- for it.)
+-- appended; a buffer is lent in starting, appending, printing, writing a message and recording a planner's text; a browser is moved. Making, reading
+-- and stepping are handed no station: refused, they return the least one. (Exception: what is printed of a register that cannot be read is the text
+-- that was asked for, and is written into the buffer lent for it.)
 use Prim.Native.Nat.{ℕ, _+_, _≤_, _<_}
 use mathlib.Core.Path.{_≡_}
 use mathlib.Core.List.{List}
@@ -20,6 +20,7 @@ use Rattle.rules.specs.declared.Report.{Report}
 use Rattle.rules.specs.declared.Settings.{Settings}
 use Rattle.rules.specs.declared.Station.{Station}
 use Rattle.rules.specs.declared.Taken.{Taken}
+use Rattle.rules_plan.specs.Recording.{recordedBytes, recordedLines, recordedOf}
 
 -- the same bytes, but for the eight of entry k
 abbrev pub SameBut : ℕ → List ℕ → List ℕ → Type 0
@@ -45,5 +46,8 @@ pub record RefusalLeaves : Type 0 where
   pub printing : (text b : List ℕ) → lengthWritten text b ≡ 0 → written text b ≡ b
   -- A message that is refused is not written.
   pub writing : (m : Message) (b : List ℕ) → (writtenOf m (length b) .answer ≡ 0 → ⊥) → afterWriting m b ≡ b
+  -- Where something is wrong with a planner's text, the bytes lent for the register stay, and the list lent for the lines of its rows.
+  pub recording : (text b rows : List ℕ) → (recordedOf text .fault ≡ 0 → ⊥)
+      → (recordedBytes text b ≡ b) × (recordedLines text rows ≡ rows)
   -- A refused move of the browser keeps its place.
   pub moving : (w : Browser) (row : ℕ) → (stepOf (bytesOf w) row .answer ≡ 0 → ⊥) → movedTo w row ≡ w
