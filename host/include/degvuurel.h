@@ -60,7 +60,7 @@ enum {
 };
 
 /* What is wrong with a planner's text: 1 to 10 with one of its lines, 11 when it ends. The first line with a fault decides, and of
- * more than one there the first of 1, then 2, 4 or 5 from left to right, 3, 6, 7, 8, 10, 9. */
+ * more than one there the first of 1, then 2, 4 or 5 from left to right, 3, 6, 7, 9, 8, 10. */
 enum {
     DEGVUUREL_UNDERSTOOD = 0,
     DEGVUUREL_NOT_A_NAME = 1,        /* the first word is not a setting, and not a kind of report */
