@@ -44,6 +44,7 @@ class Changes:
 
     def __init__(self, paper, module, definition):
         self.paper, self.module, self.definition = paper, module, definition
+        self.structs = paper.structs[paper.crates[module.name]]
         self.elsewhere = {}  # words of other files that a change may say, and the file
         self.by_kind = {
             "number": self.of_number,
@@ -110,7 +111,7 @@ class Changes:
             yield "another constructor", [put(node, word)]
         for word in self.like_parameters(node.word, clause):
             yield "another argument read", [put(node, word)]
-        for word in self.neighbours(node.word):
+        for word in self.neighbours(node.word, clause):
             yield "a neighbouring word of the same type", [put(node, word)]
 
     def like_constructors(self, word):
@@ -134,10 +135,12 @@ class Changes:
             return []
         return [other for other, kind in types.items() if other != word and kind == types[word]]
 
-    def neighbours(self, word):
+    def neighbours(self, word, clause):
         """The definition before it and the one after it of the same type in its file."""
         home = self.paper.home(self.module, word)
         if home is None or self.paper.definition(home) is None or "_" in home.word:
+            return []
+        if any(part.word == word for pattern in clause.patterns for part in pattern.walk()):  # it is a parameter here
             return []
         types = self.paper.definition(home).types
         there = self.paper.modules[home.module].definitions.values()
@@ -157,14 +160,14 @@ class Changes:
     # ---- fields and records
 
     def of_field(self, node):
-        for fields in self.paper.structs.values():
+        for fields in self.structs:
             for other, kind in fields.items():
                 if node.word in fields and other != node.word and kind == fields[node.word]:
                     yield "another field", [Edit(node.mark.start, node.mark.end, "." + other)]
 
     def of_record(self, node):
         types = {}
-        for fields in self.paper.structs.values():
+        for fields in self.structs:
             if set(fields) == set(node.names):
                 types = fields
                 break
@@ -247,7 +250,7 @@ class Changes:
         one, other = self.argument(left), self.argument(right)
         if head.word == "eqb":
             yield "an equality turned", [put(node, f"not (eqb {one} {other})")]
-            if other not in ("0", "done"):  # no number is below 0
+            if other not in ("0", "done", "understood"):  # no number is below 0
                 yield "an equality loosened", [put(node, f"leb {one} {other}")]
             yield "an equality loosened", [put(node, f"leb {other} {one}")]
         else:

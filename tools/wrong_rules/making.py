@@ -4,6 +4,7 @@ import re
 
 from wrong_rules.changes import Changes
 from wrong_rules.expressions import tokens_of
+from wrong_rules.paper import file_of
 
 TOLD = 10  # characters at least, by which a change is told
 
@@ -39,11 +40,12 @@ def wrong_rules(paper, only):
     seen, made = set(), []
     for name in paper.order:
         module = paper.modules[name]
+        names = [name, f"{paper.crates[name]}/{file_of(name)}"]
         seen.add(module.text)
         for definition in module.definitions.values():
             if definition.name in HELD_BY_THE_READER.get(name, []):
                 continue
-            if not only or name in only or f"{name}:{definition.name}" in only:
+            if not only or any(each in only or f"{each}:{definition.name}" in only for each in names):
                 for wrong in wrong_rules_of(paper, module, definition):
                     meant = re.sub(r"\((\w+)\)", r"\1", wrong.text)  # brackets around one word say nothing
                     if meant not in seen:

@@ -1,14 +1,15 @@
-"""Reads .antt: whole files, and all that the crates rules_json and rules have of them. The believed definitions are the
-paper here.
+"""Reads .antt: whole files, and all that the believed crates have of them. The believed definitions are the paper
+here.
 """
 import collections
+import itertools
 import os
 import re
 
 from wrong_rules.expressions import Expressions, blocks, split, tokens_of
 
 TOP = os.path.dirname(os.path.dirname(os.path.dirname(os.path.abspath(__file__))))
-CRATES = ["rules_json", "rules"]  # in their order; the rows and the proofs of them are of the last one
+CRATES = ["rules_json", "rules", "rules_plan"]  # the believed ones, each behind those that it stands on
 
 Clause = collections.namedtuple("Clause", "patterns body start end")
 Home = collections.namedtuple("Home", "module word")  # where a word is defined
@@ -21,13 +22,9 @@ def specs_path(crate, inside):
     return f"Rattle.{crate}.specs." if inside else f"Rattle.{crate}.specs."
 
 
-def module_of(path):
-    """The definition file that a `use` names; None for a file of the library and a type of lib.rt."""
-    for crate in CRATES:
-        for start in (specs_path(crate, True), specs_path(crate, False)):
-            if path.startswith(start) and not path.startswith(start + "declared."):
-                return path[len(start):]
-    return None
+def file_of(name):
+    """A module's name without the crate."""
+    return name.split("/")[-1]
 
 
 def is_relation(types):
@@ -47,7 +44,10 @@ class Definition:
 
 
 class Module:
-    """One file: its `use` words, definitions, data types and records, and the names of its theorems."""
+    """One file: its `use` words, definitions, data types and records, and the names of its theorems.
+
+    Its name is the file's, and where two crates have a file of that name the crate stands before it: rules_plan/Words.
+    """
 
     def __init__(self, name, text):
         self.name, self.text = name, text
@@ -120,11 +120,11 @@ class Module:
 
 def structs_of(text):
     """The fields of each struct of lib.rt, each with its type."""
-    found = {}
-    for name, body in re.findall(r"pub struct (\w+) \{(.*?)\}", text, re.S):
-        found[name] = {field: logic_type(kind) for field, kind in re.findall(r"pub (\w+): ([^,]+),", body)}
-    for name, kind in re.findall(r"pub struct (\w+)\(pub (\w+)\);", text):
-        found[name] = {"0": logic_type(kind)}
+    found = []
+    for body in re.findall(r"pub struct \w+ \{(.*?)\}", text, re.S):
+        found.append({field: logic_type(kind) for field, kind in re.findall(r"pub (\w+): ([^,]+),", body)})
+    for kind in re.findall(r"pub struct \w+\(pub (\w+)\);", text):
+        found.append({"0": logic_type(kind)})
     return found
 
 
@@ -144,39 +144,57 @@ def modules_named(crate, *path):
     return re.findall(r"^pub mod (\w+)", text_of(crate, *path), re.M)
 
 
+def has_rows(crate):
+    return "rows" in modules_named(crate, "specs", "Lib.antt")
+
+
+def crate_of_rows(crate):
+    """The crate whose rows try a crate's definitions: itself, or where it has no rows the next that has."""
+    return next(filter(has_rows, CRATES[CRATES.index(crate):]))
+
+
+def files_of(crate):
+    """The definition files of a crate and its row files, as a `use` names them."""
+    files = [name for name in modules_named(crate, "specs", "Lib.antt") if name != "rows"]
+    rows = modules_named(crate, "specs", "rows.antt") if has_rows(crate) else []
+    return files + ["rows." + name for name in rows]
+
+
 class Paper:
     """Everything that is read: definition files, row files, the tables that the proofs compute, the structs."""
 
     def __init__(self):
-        last = CRATES[-1]
-        self.structs = structs_of(text_of(last, "src", "lib.rt"))
-        self.crates = {}  # the crate of each definition file, in the files' order
-        for crate in CRATES:
-            for name in modules_named(crate, "specs", "Lib.antt"):
-                if name != "rows":
-                    self.crates[name] = crate
-        self.order, self.modules = list(self.crates), {}
-        for name, crate in self.crates.items():
-            self.modules[name] = Module(name, text_of(crate, "specs", name + ".antt"))
-        for name in modules_named(last, "specs", "rows.antt"):
-            self.modules["rows." + name] = Module("rows." + name, text_of(last, "specs", "rows", name + ".antt"))
-        self.tables = self.tables_of(modules_named(last, "proofs", "Lib.antt"))
+        structs = (structs_of(text_of(crate, "src", "lib.rt")) for crate in CRATES)
+        self.structs = dict(zip(CRATES, itertools.accumulate(structs)))  # of each crate and those that it stands on
+        self.modules, self.crates = {}, {}  # each file by its name, and its crate
+        self.paths = {}  # what a `use` says, and the name of the file
+        files = [(crate, file) for crate in CRATES for file in files_of(crate)]
+        often = collections.Counter(file for _, file in files)
+        for crate, file in files:
+            name = file if often[file] == 1 else f"{crate}/{file}"
+            self.modules[name] = Module(name, text_of(crate, "specs", file.replace(".", "/") + ".antt"))
+            self.crates[name] = crate
+            for inside in (True, False):
+                self.paths[specs_path(crate, inside) + file] = name
+        self.order = [name for name in self.modules if not file_of(name).startswith("rows.")]
+        self.tables = {}  # by proof file: no two crates have one of the same name
+        for crate in filter(has_rows, CRATES):
+            self.tables.update(self.tables_of(crate))
 
-    def tables_of(self, proofs):
-        """The table that each proof file computes, by the file's name."""
+    def tables_of(self, crate):
+        """The table that each proof file of a crate computes, by the file's name."""
         found = {}
-        for name in proofs:
-            proof = Module(name, text_of(CRATES[-1], "proofs", name + ".antt"))
+        for name in modules_named(crate, "proofs", "Lib.antt"):
+            proof = Module(name, text_of(crate, "proofs", name + ".antt"))
             for word, path in proof.used.items():
-                module = module_of(path) or ""
-                if module.startswith("rows.") and self.is_table(Home(module, word)):
-                    found[name] = Table(module, word, "rows" in proof.theorems)
+                if path in self.paths and self.is_table(Home(self.paths[path], word)):
+                    found[name] = Table(self.paths[path], word, "rows" in proof.theorems)
         return found
 
     def path_between(self, module, other):
         """How a `use` in one definition file names another."""
         crate = self.crates[other]
-        return specs_path(crate, crate == self.crates[module]) + other
+        return specs_path(crate, crate == self.crates[module]) + file_of(other)
 
     def is_table(self, home):
         definition = self.definition(home)
@@ -187,9 +205,9 @@ class Paper:
         for spelling in (word, "_if_then_" if word == "if" else f"_{word}_"):
             if spelling in module.definitions or any(spelling in words for words in module.data.values()):
                 return Home(module.name, spelling)
-            there = module_of(module.used.get(spelling, ""))
-            if there:
-                return Home(there, spelling)
+            path = module.used.get(spelling)
+            if path in self.paths:
+                return Home(self.paths[path], spelling)
         return None
 
     def definition(self, home):

@@ -7,25 +7,28 @@ import subprocess
 import sys
 import tempfile
 
-from wrong_rules.paper import CRATES, TOP
+from wrong_rules.paper import CRATES, TOP, crate_of_rows, file_of
 
 LONGEST = 900  # seconds that the prover may take
 
 
 class Prover:
-    """A repository of the crates rules_json and rules alone, in a temporary folder, which has been checked once."""
+    """A repository of the believed crates alone, in a temporary folder, where some of them have been checked once."""
 
-    def __init__(self, with_rows):
+    def __init__(self, crates, with_rows):
         self.root = tempfile.mkdtemp(prefix="wrong-rules-")
         atexit.register(shutil.rmtree, self.root, ignore_errors=True)
         for crate in CRATES:
             for part in ["src", "specs", "proofs"] if with_rows else ["src", "specs"]:
                 self.copy(crate, part)
+        with open(os.path.join(TOP, "crates.txt")) as file:
+            lines = [line for line in file if line.split(":")[0] in CRATES]
         with open(os.path.join(self.root, "crates.txt"), "w") as file:
-            file.write("rules_json:\nrules: rules_json\n")
-        status, said = self.check()
-        if status != 0:
-            sys.exit("the crates rules_json and rules are not proved as they stand:\n" + said)
+            file.writelines(lines)
+        for crate in crates:
+            status, said = self.check(crate)
+            if status != 0:
+                sys.exit(f"the crate {crate} is not proved as it stands:\n" + said)
         shutil.copytree(os.path.join(self.root, "target"), os.path.join(self.root, "warm"))
 
     def copy(self, crate, part):
@@ -33,7 +36,7 @@ class Prover:
         if os.path.exists(os.path.join(TOP, path)):
             shutil.copytree(os.path.join(TOP, path), os.path.join(self.root, path))
 
-    def check(self, crate=CRATES[-1]):
+    def check(self, crate):
         """The prover's status, and what it says of a crate, once those below it are proved."""
         try:
             done = subprocess.run(
@@ -84,10 +87,11 @@ class Prover:
 
     def refusing(self, wrong):
         """The theorems that are refused with this wrong rule in the place of the right one; None if it cannot tell."""
-        right = self.read(wrong.crate, wrong.file)
-        self.write(wrong.crate, wrong.file, wrong.text)
-        status, said = self.check()
-        self.write(wrong.crate, wrong.file, right)
+        file = file_of(wrong.file)
+        right = self.read(wrong.crate, file)
+        self.write(wrong.crate, file, wrong.text)
+        status, said = self.check(crate_of_rows(wrong.crate))
+        self.write(wrong.crate, file, right)
         self.again()
         theorems = sorted(set(re.findall(r"proofs/(\w+)\.antt:\d+:\d+: error: `([^`]+)`", said)))
         return theorems if status == 0 or theorems else None

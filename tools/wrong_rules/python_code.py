@@ -5,7 +5,7 @@ All is computed at once, but for the operands of an operator such as ▷ that it
 """
 import collections
 
-from wrong_rules.paper import Home
+from wrong_rules.paper import CRATES, Home
 
 # The library's words: how many arguments they take, and the Python for them.
 WORDS = {
@@ -116,7 +116,7 @@ class Coder:
     def __init__(self, paper):
         self.paper = paper
         self.module, self.before, self.locals = None, [], {}
-        records = [list(fields) for fields in paper.structs.values()]
+        records = [list(fields) for fields in paper.structs[CRATES[-1]]]
         for module in paper.modules.values():
             records += module.records.values()
         self.records = {frozenset(fields): fields for fields in records}

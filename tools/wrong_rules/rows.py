@@ -10,15 +10,15 @@ import sys
 import time
 
 from wrong_rules.expressions import Node
-from wrong_rules.paper import Home, Module
+from wrong_rules.paper import Home, Module, crate_of_rows
 from wrong_rules.python_code import FUNCTIONS, Coder, function_name
 
 SECONDS = 3  # of the processor at most, for one part of a table, which takes a tenth of a second by the right rules
 MUCH = 8  # seconds of the processor, after which the rows that refuse a wrong rule are enough
 MACHINE = Home("rows.Machine", "ours")  # what the row files with a parameter are given for it
 
-# A part of the table of a proof file: its Python, and the homes of all that it can reach.
-Part = collections.namedtuple("Part", "proof code reached")
+# A part of the table of a crate's proof file: its Python, and the homes of all that it can reach.
+Part = collections.namedtuple("Part", "crate proof code reached")
 
 
 class TooLong(Exception):
@@ -68,7 +68,7 @@ class Rows:
         self.coder.enter(module, definition.before, [f"({function_name(home)}())" for home in machines])
         for node in pieces(definition.clauses[0].body):
             code = compile(self.coder.code(node), proof, "eval")
-            yield Part(proof, code, self.reach(self.homes(module, node) + machines))
+            yield Part(self.paper.crates[table.module], proof, code, self.reach(self.homes(module, node) + machines))
 
     def homes(self, module, node):
         """Where the words of an expression are defined."""
@@ -94,12 +94,12 @@ class Rows:
         """The rows that come out wrong, and how many parts could not be computed in time."""
         if wrong is None:
             return self.computed(self.parts)
-        home = Home(wrong.file, wrong.name)
+        home, crate = Home(wrong.file, wrong.name), crate_of_rows(wrong.crate)
         name, module = function_name(home), Module(wrong.file, wrong.text)
         right, kept = self.space[name], list(self.kept)
         try:
             exec(self.coder.definition(module, module.definitions[wrong.name]), self.space)
-            return self.computed([part for part in self.parts if home in part.reached])
+            return self.computed([part for part in self.parts if part.crate == crate and home in part.reached])
         finally:
             self.space[name], self.kept = right, kept
 

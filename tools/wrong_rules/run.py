@@ -10,7 +10,7 @@ import signal
 import sys
 import time
 
-from wrong_rules.paper import CRATES
+from wrong_rules.paper import CRATES, crate_of_rows
 from wrong_rules.prover import Prover
 from wrong_rules.rows import Rows
 
@@ -73,6 +73,8 @@ class Run:
         self.options, self.paper, self.wrongs = options, paper, wrongs
         self.verdicts, self.began = {}, time.time()
         self.labels = {proof: self.label(table.module) for proof, table in paper.tables.items()}
+        tried_by = {crate_of_rows(wrong.crate) for wrong in wrongs}
+        self.asked = [crate for crate in CRATES if crate in tried_by]  # whose rows are asked
         known = read_log(options.resume) if options.resume else {}
         os.makedirs(os.path.dirname(os.path.abspath(options.log)), exist_ok=True)
         if options.resume == options.log:
@@ -85,7 +87,7 @@ class Run:
                     self.tell(wrong, known[wrong.key])
 
     def label(self, module):
-        """The letter that a table's comments name its rows by: C, R, H, G, B."""
+        """The letter that a table's comments name its rows by: C, R, H, G, B, J, M, P."""
         letters = re.findall(r"--.*?\b([A-Z])\d+\b", self.paper.modules[module].text)
         return collections.Counter(letters).most_common(1)[0][0] if letters else module.split(".")[-1] + " "
 
@@ -108,7 +110,7 @@ class Run:
     def read_all(self):
         """The prover reads the changed files, many in one run."""
         left = self.left()
-        reader, done = Prover(with_rows=False) if left else None, 0
+        reader, done = Prover(self.asked, with_rows=False) if left else None, 0
         for crate in CRATES:
             wrongs = [wrong for wrong in left if wrong.crate == crate]
             for at in range(0, len(wrongs), TOGETHER):
