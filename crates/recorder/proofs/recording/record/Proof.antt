@@ -25,7 +25,7 @@ returns-2 c =
     let right = tested .if1 .left in
     let filled = c .fill .ensures in (
       all-recorded _ _ found right,
-      (bytes-recorded _ _ found right _ _ (filled .0), lines-recorded _ _ found right _ _ (filled .1)),
+      (bytes-recorded _ _ found right _ _ (filled .0), lines-recorded _ _ found right _ _ (filled .1 .0) (filled .1 .1)),
     )
 
 pub record-spec : {M : Type 1} → statement M

@@ -1,6 +1,7 @@
 -- A planner's text with nothing wrong: its settings are within their limits, and its reports were counted one by one.
 -- Assumes nothing.
 use Prim.Native.Nat.{ℕ, suc, _+_, _≤_}
+use native.Mathlib.Nat.{zero-add}
 use native.Mathlib.Omega.{arith}
 use mathlib.Core.Path.{_≡_, refl, sym, ap, subst, _∙_}
 use mathlib.Core.Bool.{Bool, true, false, false≢true, true≢false, cond, not, _&&_}
@@ -9,11 +10,11 @@ use borrow.Author.Tests.{eqb-true, leb-false, lt-leb, ltb-true, not-false}
 use lib.Dec.{eqb, leb, ltb}
 use lib.ListN.{length, set}
 use Rattle.chains.proofs.Chains.{both-done, passed, where-done}
-use Rattle.demands.specs.RecordedBack.{reportsIn}
 use Rattle.rules.specs.Station.{withinLimits}
 use Rattle.rules.specs.declared.Report.{Report}
 use Rattle.rules_plan.specs.Faults.{allGiven, checked, checkedFrom, lineFault, nothingSaid, withLine, withSetting}
 use Rattle.rules_plan.specs.Lines.{isReport, isSetting, lineOf}
+use Rattle.rules_plan.specs.Recording.{linesIn, reportsIn, reportsSaid}
 use Rattle.rules_plan.specs.Words.{lines, unmarked}
 use Rattle.rules_plan.specs.declared.Checked.{Checked}
 use Rattle.rules_plan.specs.declared.Line.{Line}
@@ -85,39 +86,92 @@ module _ (s : Said) (l : Line) where
 
 -- ---- line by line
 
--- what the lines have said in the end
-pub record Understood (s : Said) (ls : List (List ℕ)) (found : Said) : Type 0 where
-  pub settings : withinLimits (found .settings) ≡ true
-  pub reports : found .reports ≡ s .reports + length (reportsIn ls)
-  pub few : found .reports ≤ 8190
+-- the first of several lines, behind which nothing is wrong
+pub record Passed (line : ℕ) (s : Said) (l : List ℕ) (ls : List (List ℕ)) : Type 0 where
+  pub first : lineFault s (lineOf l) ≡ 0
+  pub on : checkedFrom line s (l ∷ ls) ≡ checkedFrom (suc line) (withLine s (lineOf l)) ls
+  pub rest : checkedFrom (suc line) (withLine s (lineOf l)) ls .fault ≡ 0
 
-line-understood : (n : ℕ) (on stop : Checked) → stop .fault ≡ n → cond (eqb n 0) on stop .fault ≡ 0 → n ≡ 0
-line-understood n on stop h e = go (eqb n 0) refl e
+pub line-passed : (line : ℕ) (s : Said) (l : List ℕ) (ls : List (List ℕ)) → checkedFrom line s (l ∷ ls) .fault ≡ 0
+    → Passed line s l ls
+unfolding checkedFrom
+line-passed line s l ls e = record { first = fine; on = on; rest = sym (ap (λ (c : Checked). c .fault) on) ∙ e }
   where
-    go : (t : Bool) → eqb n 0 ≡ t → cond t on stop .fault ≡ 0 → n ≡ 0
-    go true q e = eqb-true n 0 q
-    go false q e = sym h ∙ e
+    fault : ℕ
+    fault = lineFault s (lineOf l)
+
+    next : Checked
+    next = checkedFrom (suc line) (withLine s (lineOf l)) ls
+
+    go : (t : Bool) → eqb fault 0 ≡ t → cond t next (record { fault = fault; line = line; said = s }) .fault ≡ 0
+        → fault ≡ 0
+    go true q e = eqb-true fault 0 q
+    go false q e = e
+
+    fine : fault ≡ 0
+    fine = go (eqb fault 0) refl e
+
+    on : checkedFrom line s (l ∷ ls) ≡ next
+    on = where-done fault _ _ fine
+
+-- what the lines have said in the end
+pub record Understood (s : Said) (ls : List (List ℕ)) (found : Checked) : Type 0 where
+  pub line : found .line ≡ 0
+  pub settings : withinLimits (found .said .settings) ≡ true
+  pub reports : found .said .reports ≡ s .reports + length (reportsIn ls)
+  pub few : found .said .reports ≤ 8190
 
 understood-from : (line : ℕ) (s : Said) (ls : List (List ℕ)) → Sound s → checkedFrom line s ls .fault ≡ 0
-    → Understood s ls (checkedFrom line s ls .said)
+    → Understood s ls (checkedFrom line s ls)
 unfolding checkedFrom reportsIn
 understood-from line s [] h e =
     record {
+      line = refl;
       settings = h .within (not-false (allGiven s) (passed 10 (not (allGiven s)) 0 e .0));
       reports = omega arith;
       few = h .few;
     }
 understood-from line s (l ∷ ls) h e =
     let found = lineOf l in
-    let next = withLine s found in
-    let z = line-understood (lineFault s found) _ _ refl e in
-    let on : checkedFrom line s (l ∷ ls) ≡ checkedFrom (suc line) next ls = where-done (lineFault s found) _ _ z in
-    let fine = sym (ap (λ (c : Checked). c .fault) on) ∙ e in
-    let rest = understood-from (suc line) next ls (sound-after s found h z) fine in
-    subst (λ (c : Checked). Understood s (l ∷ ls) (c .said)) (sym on)
-    (record { settings = rest .settings; reports = rest .reports ∙ one-more s found (reportsIn ls); few = rest .few })
+    let on = line-passed line s l ls e in
+    let rest = understood-from (suc line) (withLine s found) ls (sound-after s found h (on .first)) (on .rest) in
+    subst (Understood s (l ∷ ls)) (sym (on .on))
+    (record {
+      line = rest .line;
+      settings = rest .settings;
+      reports = rest .reports ∙ one-more s found (reportsIn ls);
+      few = rest .few;
+    })
 
-pub text-understood : (text : List ℕ) → checked text .fault ≡ 0
-    → Understood nothingSaid (lines (unmarked text)) (checked text .said)
-unfolding checked
-text-understood text e = understood-from 1 nothingSaid (lines (unmarked text)) sound-at-first e
+-- ---- a text
+
+module _ (text : List ℕ) (fine : checked text .fault ≡ 0) where
+  understood : Understood nothingSaid (lines (unmarked text)) (checked text)
+  unfolding checked
+  understood = understood-from 1 nothingSaid (lines (unmarked text)) sound-at-first fine
+
+  pub no-line : checked text .line ≡ 0
+  no-line = understood .line
+
+  pub within-limits : withinLimits (checked text .said .settings) ≡ true
+  within-limits = understood .settings
+
+  -- Its reports were counted one by one,
+  pub all-counted : checked text .said .reports ≡ length (reportsSaid text)
+  unfolding nothingSaid
+  all-counted = understood .reports ∙ zero-add _
+
+  pub few-reports : length (reportsSaid text) ≤ 8190
+  few-reports = omega (arith, all-counted, understood .few)
+
+-- and there are as many lines of reports.
+pub as-many : (line : ℕ) (ls : List (List ℕ)) → length (linesIn line ls) ≡ length (reportsIn ls)
+unfolding linesIn reportsIn
+as-many line [] = refl
+as-many line (l ∷ ls) = go (isReport (lineOf l)) (as-many (suc line) ls)
+  where
+    go : (t : Bool) → length (linesIn (suc line) ls) ≡ length (reportsIn ls)
+        → length (cond t (line ∷ linesIn (suc line) ls) (linesIn (suc line) ls))
+        ≡ length (cond t (lineOf l .numbers ∷ reportsIn ls) (reportsIn ls))
+    go true e = ap suc e
+    go false e = e
