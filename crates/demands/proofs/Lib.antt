@@ -31,5 +31,5 @@ pub mod SheetBack
 pub mod Stated
 pub mod StationMessage
 pub mod TextEntered
-pub mod TextUnderstood
+pub mod TextSettings
 pub mod ValueForms

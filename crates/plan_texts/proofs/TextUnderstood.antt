@@ -33,8 +33,8 @@ sound-at-first = record { within = λ e. absurd (false≢true e); few = omega ar
 
 module _ (s : Said) (l : Line) where
   -- a line is a setting, a report, or neither
-  abbrev after : Bool → Bool → Said
-  after setting report =
+  abbrev pub byKind : Bool → Bool → Said
+  byKind setting report =
       cond
       setting
       (record { given = set (s .given) (l .name) true; settings = withSetting (s .settings) l; reports = s .reports })
@@ -42,19 +42,19 @@ module _ (s : Said) (l : Line) where
 
   -- The line that completes the settings is refused where they are outside their limits, and a report where there are
   -- 8,190 already.
-  by-kind : (setting report : Bool) → Sound s
-      → (setting && allGiven (after setting report) && not (withinLimits (after setting report .settings))) ≡ false
+  sound-by : (setting report : Bool) → Sound s
+      → (setting && allGiven (byKind setting report) && not (withinLimits (byKind setting report .settings))) ≡ false
       → (report && leb 8190 (s .reports)) ≡ false
-      → Sound (after setting report)
+      → Sound (byKind setting report)
   unfolding allGiven
-  by-kind true report h e f =
-      let now = after true report in
+  sound-by true report h e f =
+      let now = byKind true report in
       record {
         within = λ g. not-false _ (sym (ap (λ (t : Bool). t && not (withinLimits (now .settings))) g) ∙ e);
         few = h .few;
       }
-  by-kind false true h e f = record { within = h .within; few = omega (arith, leb-false 8190 (s .reports) f) }
-  by-kind false false h e f = record { within = h .within; few = h .few }
+  sound-by false true h e f = record { within = h .within; few = omega (arith, leb-false 8190 (s .reports) f) }
+  sound-by false false h e f = record { within = h .within; few = h .few }
 
   sound-after : Sound s → lineFault s l ≡ 0 → Sound (withLine s l)
   unfolding lineFault withLine
@@ -62,7 +62,7 @@ module _ (s : Said) (l : Line) where
       let in-place = passed 6 _ _ (passed 5 _ _ (both-done (l .fault) _ e .1) .1) .1 in
       let completes = passed 8 _ _ in-place in
       let counts = passed 9 _ _ (passed 7 _ _ (completes .1) .1) in
-      by-kind (isSetting l) (isReport l) h (completes .0) (counts .0)
+      sound-by (isSetting l) (isReport l) h (completes .0) (counts .0)
 
   no-setting : (setting : Bool) → isSetting l ≡ setting → isReport l ≡ true → setting ≡ false
   no-setting true e f = absurd (false≢true (sym (ap (λ (t : Bool). t && ltb (l .name) 14) before) ∙ f))
@@ -78,7 +78,7 @@ module _ (s : Said) (l : Line) where
   one-more rest = go (isSetting l) (isReport l) (no-setting (isSetting l) refl)
     where
       go : (setting report : Bool) → (report ≡ true → setting ≡ false)
-          → after setting report .reports + length rest ≡ s .reports + length (cond report (l .numbers ∷ rest) rest)
+          → byKind setting report .reports + length rest ≡ s .reports + length (cond report (l .numbers ∷ rest) rest)
       go true true h = absurd (true≢false (h refl))
       go true false h = refl
       go false true h = omega arith

@@ -19,7 +19,7 @@ use Rattle.rules_plan.specs.declared.Recorded.{Recorded}
 abbrev told : Checked → ℕ → Recorded
 told found count = record { fault = found .fault; line = found .line; count = count }
 
--- There is room for them, and for none of them anywhere.
+-- The list lent has room for so many; where there are none, whatever its length.
 fits : (n reports room : ℕ) → n ≡ reports → reports ≤ 8190 → (0 < reports → room ≡ 8190) → 0 + n ≤ room
 fits n zero room e few h = omega arith
 fits n (suc reports) room e few h = omega (arith, h (omega arith))

@@ -1,7 +1,8 @@
 -- The definitions that the rows compute with. Whoever says `unfolding computed` opens them all, those of rules too.
 use Rattle.rules_plan.specs.Faults.{allGiven, checked, checkedFrom, lineFault, nothingSaid, withLine, withSetting}
 use Rattle.rules_plan.specs.Lines.{lineOf, lineSaid, mosts, numbersOf, wordsFault}
-use Rattle.rules_plan.specs.Recording.{entered, filledWith, linesIn, recordedBytes, recordedLines, recordedOf, reportsIn, startedWith}
+use Rattle.rules_plan.specs.Recording.{entered, filledWith, linesIn, reportsIn, startedWith}
+use Rattle.rules_plan.specs.Recording.{recordedBytes, recordedLines, recordedOf}
 use Rattle.rules_plan.specs.Words.{markSize, nameOf, pieces, uncommented, unmarked, words}
 
 ofWords : Unit {0}

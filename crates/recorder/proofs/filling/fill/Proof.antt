@@ -7,7 +7,8 @@ use native.Mathlib.Omega.{arith}
 use mathlib.Core.Path.{_≡_, refl, sym, ap, _∙_}
 use borrow.Author.Needs.{needs}
 use lib.ListN.{drop, length}
-use Rattle.recorder.proofs.FilledOn.{as-long, count-after, filled-on, filled-whole, lines-on, lines-whole, room-on}
+use Rattle.recorder.proofs.FilledOn.{as-long, count-after, filled-on, filled-whole}
+use Rattle.recorder.proofs.FilledOn.{lines-on, lines-whole, room-on}
 use Rattle.recorder.proofs.InPlain.{all-entered}
 use Rattle.recorder.proofs.filling.fill.Statement.{statement}
 use Rattle.recorder.specs.AfterLine.{filling}
@@ -50,11 +51,12 @@ enter-requires c κs = search needs
 
 -- where the function began, from where the loop began
 abbrev start : tie.After-after-mark Inv-loop μ-loop → tie.Start Inv-loop μ-loop
-start c = c .before .before .before .before .before .before
+start c = let made = c .before .before .before in made .before .before .before
 
 add-line : tie.Need-add-line Inv-loop μ-loop
 add-line c =
-    let tested = c .before .before .before .before .before .before in
+    let read = c .before .before .before in
+    let tested = read .before .before .before in
     omega (arith, tested .loop-test .taken, tested .before .loop .inv .2, start (tested .before .before) .good)
 
 loop-less : tie.Need-loop-less Inv-loop μ-loop
@@ -63,7 +65,8 @@ loop-less c = search needs
 loop-again : tie.Need-loop-again Inv-loop μ-loop
 loop-again c =
     let after = c .before .enter .ensures in
-    let read = c .before .before .before .before .before in
+    let lent = c .before .before .before in
+    let read = lent .before .before in
     let first = read .line-from .ensures in
     let turn = read .before .before .loop in
     let inv = turn .inv in
