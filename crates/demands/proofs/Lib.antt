@@ -31,7 +31,7 @@ pub mod SheetBack
 pub mod Stated
 pub mod StationMessage
 pub mod TextEntered
-pub mod TextUnderstood
+pub mod TextSettings
 pub mod TextWords
 pub mod Texts
 pub mod ValueForms

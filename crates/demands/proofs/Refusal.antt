@@ -12,7 +12,7 @@ use Rattle.browser.specs.declared.Browser.{Browser}
 use Rattle.chains.proofs.Chains.{group-so, test-so}
 use Rattle.demands.proofs.BrowseBack.{refused-stays}
 use Rattle.demands.proofs.Exactly.{in-its-case}
-use Rattle.demands.proofs.RecordedBack.{misread-leaves}
+use Rattle.demands.proofs.RecordedBack.{texts-recorded}
 use Rattle.demands.proofs.RegisterLaws.{append-applies, append-elsewhere, append-enters-refused, append-refused, start-refused}
 use Rattle.demands.proofs.Screens.{writes}
 use Rattle.demands.proofs.Stated.{append-within, stated-report}
@@ -95,6 +95,6 @@ refusal-leaves =
       appending = append-leaves;
       printing = not-written;
       writing = λ m b h. writes .refused m b h .1;
-      recording = λ text b rows h. let left = misread-leaves text h in (left .bytes b, left .rows rows);
+      recording = λ text b rows h. let left = texts-recorded .misread text h in (left .bytes b, left .rows rows);
       moving = refused-stays;
     }

@@ -1,40 +1,52 @@
 -- Demand 2: "A register that we start and fill reads back to the same rows, and stepping back to any row gives the station as it was after that row."
 -- Here of the register that is recorded of a planner's text: it reads back to the reports that the text says, in their order.
-use Prim.Native.Nat.{ℕ, suc, _-_, _≤_, _<_}
+use Prim.Native.Nat.{ℕ, _-_, _≤_, _<_}
 use mathlib.Core.Path.{_≡_}
 use mathlib.Core.Bool.{true, cond}
 use mathlib.Core.List.{List, [], _∷_}
+use lib.Dec.{eqb}
 use lib.ListN.{drop, getD, length, take}
 use Rattle.demands.specs.ReadBack.{Filling, ReadsBack, ours, register}
+use Rattle.demands.specs.Texts.{linesOf}
 use Rattle.rules.specs.Layout.{entryStart}
 use Rattle.rules.specs.OfEachKind.{report}
 use Rattle.rules.specs.Station.{withinLimits}
 use Rattle.rules.specs.declared.Report.{Report}
+use Rattle.rules.specs.declared.Settings.{Settings}
 use Rattle.rules_plan.specs.Faults.{checked}
-use Rattle.rules_plan.specs.Lines.{isReport, lineOf}
-use Rattle.rules_plan.specs.Recording.{recordedBytes, recordedLines, recordedOf}
-use Rattle.rules_plan.specs.Words.{lines, unmarked}
+use Rattle.rules_plan.specs.Lines.{isReport, isSetting, lineOf}
+use Rattle.rules_plan.specs.Recording.{linesSaid, recordedBytes, recordedLines, recordedOf, reportsSaid}
+use Rattle.rules_plan.specs.declared.Line.{Line}
 
--- ---- what a text says, with no register
+-- ---- a text's lines
 
--- the reports of lines, in their order
-unfoldable pub reportsIn : List (List ℕ) → List Report
-reportsIn [] = []
-reportsIn (l ∷ ls) = cond (isReport (lineOf l)) (lineOf l .numbers ∷ reportsIn ls) (reportsIn ls)
+-- what the line at a place says, counted from 0
+abbrev pub lineAt : List (List ℕ) → ℕ → Line
+lineAt ls k = lineOf (getD ls k [])
 
-abbrev pub reportsSaid : List ℕ → List Report
-reportsSaid text = reportsIn (lines (unmarked text))
+-- and the line with a number, counted from 1
+abbrev pub lineNumbered : List (List ℕ) → ℕ → Line
+lineNumbered ls number = lineAt ls (number - 1)
 
--- the number of each report's line, where the first line has a number and each line one more than the line before it
-unfoldable pub linesIn : ℕ → List (List ℕ) → List ℕ
-linesIn line [] = []
-linesIn line (l ∷ ls) = cond (isReport (lineOf l)) (line ∷ linesIn (suc line) ls) (linesIn (suc line) ls)
+-- ---- its settings
 
--- counted from 1
-abbrev pub linesSaid : List ℕ → List ℕ
-linesSaid text = linesIn 1 (lines (unmarked text))
+-- the number of a line that names a setting: tracks are a byte, a timer has sixteen bits
+abbrev pub numberSaid : Line → ℕ
+numberSaid l = cond (eqb (l .name) 0) (l .numbers .a) (l .numbers .value)
 
--- how many reports were entered
+-- a setting by its place among the words that a line may begin with
+abbrev pub settingNamed : Settings → ℕ → ℕ
+settingNamed c name = getD (c .tracks ∷ c .t1 ∷ c .t2 ∷ c .t3 ∷ c .t4 ∷ c .t5 ∷ []) name 0
+
+-- A line begins with the word.
+pub record Named (ls : List (List ℕ)) (name : ℕ) : Type 0 where
+  pub place : ℕ
+  pub within : place < length ls
+  pub named : lineAt ls place .name ≡ name
+
+-- ---- its reports
+
+-- how many were entered
 abbrev pub countOf : List ℕ → ℕ
 countOf text = recordedOf text .count
 
@@ -52,11 +64,17 @@ fillingOf text lent = record { settings = checked text .said .settings; lent = l
 -- ---- what is recorded of a text with nothing wrong
 
 pub record RecordedBack (text lent : List ℕ) : Type 0 where
+  -- No fault is told, and no line.
+  pub fault : recordedOf text .fault ≡ 0
+  pub line : recordedOf text .line ≡ 0
   -- All of the text's reports were entered, which a register has room for,
   pub count : countOf text ≡ length (reportsSaid text)
   pub few : countOf text ≤ 8190
-  -- with settings that are taken.
+  -- with settings that are taken: each is given on a line, and is the number on whatever line names it.
   pub settings : withinLimits (checked text .said .settings) ≡ true
+  pub settingsGiven : (name : ℕ) → name < 6 → Named (linesOf text) name
+  pub settingsSaid : (k : ℕ) → k < length (linesOf text) → isSetting (lineAt (linesOf text) k) ≡ true
+      → settingNamed (checked text .said .settings) (lineAt (linesOf text) k .name) ≡ numberSaid (lineAt (linesOf text) k)
   -- The bytes lent hold the register of the text's settings and reports, and behind it what they held before.
   pub bytes : take (entryStart (countOf text)) (recordedBytes text lent) ≡ register (fillingOf text lent) (countOf text)
   pub beyond : drop (entryStart (countOf text)) (recordedBytes text lent) ≡ drop (entryStart (countOf text)) lent
@@ -64,16 +82,18 @@ pub record RecordedBack (text lent : List ℕ) : Type 0 where
   -- gives the station after so many of the text's reports.
   pub back : ReadsBack ours (fillingOf text lent) (countOf text)
 
--- what the line with a number says, counted from 1
-abbrev pub reportOn : List ℕ → ℕ → Report
-reportOn text line = lineOf (getD (lines (unmarked text)) (line - 1) []) .numbers
+-- A line is a report, and this one.
+pub record Says (l : Line) (said : Report) : Type 0 where
+  pub report : isReport l ≡ true
+  pub numbers : l .numbers ≡ said
 
 pub record LinesRecorded (text rows : List ℕ) : Type 0 where
   -- The list lent holds the number of each report's line in the reports' order, and behind them what it held before.
   pub numbers : take (countOf text) (recordedLines text rows) ≡ linesSaid text
   pub beyond : drop (countOf text) (recordedLines text rows) ≡ drop (countOf text) rows
+  pub size : length (recordedLines text rows) ≡ length rows
   -- The line whose number stands at a row's place says the row's report.
-  pub says : (k : ℕ) → k < countOf text → reportOn text (getD (recordedLines text rows) k 0) ≡ reportAt text k
+  pub says : (k : ℕ) → k < countOf text → Says (lineNumbered (linesOf text) (getD (recordedLines text rows) k 0)) (reportAt text k)
 
 -- ---- and of a text with something wrong: nothing
 
@@ -81,3 +101,10 @@ pub record MisreadLeaves (text : List ℕ) : Type 0 where
   pub count : countOf text ≡ 0
   pub bytes : (lent : List ℕ) → recordedBytes text lent ≡ lent
   pub rows : (rows : List ℕ) → recordedLines text rows ≡ rows
+
+-- ---- of any text, and whatever is lent for it
+
+pub record TextsRecorded : Type 0 where
+  pub understood : (text lent : List ℕ) → checked text .fault ≡ 0 → 65536 ≤ length lent → RecordedBack text lent
+  pub lines : (text rows : List ℕ) → checked text .fault ≡ 0 → 8190 ≤ length rows → LinesRecorded text rows
+  pub misread : (text : List ℕ) → (checked text .fault ≡ 0 → ⊥) → MisreadLeaves text

@@ -60,7 +60,7 @@ ofStanding s l =
     6 when (isSetting l ≡ true) × (0 < s .reports) then
     -- a setting that was given already
     7 when (isSetting l ≡ true) × (givenAlready s l ≡ true) then
-    -- the last of the six settings, which are outside their limits
+    -- the setting with which all six are given, where the six are outside their limits
     9 when Completes s l × (withinLimits (withLine s l .settings) ≡ false) then
     -- a report before all six settings
     8 when (isReport l ≡ true) × (allGiven s ≡ false) then

@@ -59,7 +59,7 @@ fn start_of(text: &[u8], line: usize) -> usize
     ensures { λ r. ⌜ r ≤ length (now (text .entry)) ⌝ }
 {
     let mut ahead = line;
-    let mut at = after_mark(text);
+    let mut at = recorder::after_mark(text);
     while at < text.len() {
         if ahead <= 1 {
             return at;
@@ -70,16 +70,6 @@ fn start_of(text: &[u8], line: usize) -> usize
         at += 1;
     }
     at
-}
-
-fn after_mark(text: &[u8]) -> usize
-    ensures { λ r. ⌜ r ≤ length (now (text .entry)) ⌝ }
-{
-    if text.len() < 3 {
-        return 0;
-    }
-    let marked = (text[0] == 0xEF) & (text[1] == 0xBB) & (text[2] == 0xBF);
-    if marked { 3 } else { 0 }
 }
 
 // The first line of a text, set in. Whatever could move a terminal's cursor is shown as a question mark.

@@ -1,17 +1,18 @@
 -- One turn of the filling: a line's report entered, its line put down, and on behind it.
 -- Assumes nothing.
-use Prim.Native.Nat.{ℕ, suc, _≤_}
+use Prim.Native.Nat.{ℕ, suc, _≤_, _<_}
 use native.Mathlib.Omega.{arith}
 use mathlib.Core.Bool.{Bool, true, false, cond}
 use mathlib.Core.List.{List}
 use mathlib.Core.Path.{_≡_, refl, sym, ap, _∙_}
-use lib.ListN.{drop, drop-of-length-le, length, set}
+use lib.ListN.{drop, drop-of-length-le, length, length-set, set}
 use Rattle.recorder.specs.AfterLine.{afterLine, filling}
+use Rattle.recorder.specs.ByLine.{filledFrom, linesFrom}
 use Rattle.recorder.specs.FirstLine.{FirstLine}
 use Rattle.rules.specs.Register.{appended, appendedBytes}
 use Rattle.rules.specs.declared.Taken.{Taken}
 use Rattle.rules_plan.specs.Lines.{isReport}
-use Rattle.rules_plan.specs.Recording.{Filling, entered, filledWith, linesFrom}
+use Rattle.rules_plan.specs.Recording.{Filling, entered}
 use Rattle.rules_plan.specs.Words.{lines, pieces}
 use Rattle.rules_plan.specs.declared.Line.{Line}
 
@@ -55,19 +56,38 @@ module _ (found : Line) (rows : List ℕ) (count line : ℕ) where
       → rows′ ≡ rowsAfter (isReport found)
   put-down rows′ e h = h ∙ sym (ap rowsAfter e)
 
+  pub as-long : (rows′ : List ℕ) → rows′ ≡ rowsAfter (isReport found) → length rows′ ≡ length rows
+  as-long rows′ e = ap length e ∙ by-kind (isReport found)
+    where
+      by-kind : (t : Bool) → length (rowsAfter t) ≡ length rows
+      by-kind true = length-set rows count line
+      by-kind false = refl
+
+-- The list's length is seen where a line is put down.
+pub room-on : (found : Line) (count next n : ℕ) → next ≡ cond (isReport found) (suc count) count
+    → (isReport found ≡ true → n ≡ 8190)
+    → (0 < count → n ≡ 8190)
+    → 0 < next
+    → n ≡ 8190
+room-on found count next n e here before h = go (isReport found) e here
+  where
+    go : (t : Bool) → next ≡ cond t (suc count) count → (t ≡ true → n ≡ 8190) → n ≡ 8190
+    go true e here = here refl
+    go false e here = before (omega arith)
+
 -- ---- a turn
 
 pub filled-on : (f next : Filling) (text behind : List ℕ) (found : Line) (whole : Filling) → FirstLine text found behind
     → next ≡ afterLine found f
-    → filledWith f (lines text) ≡ whole
-    → filledWith next (lines behind) ≡ whole
-unfolding filledWith
+    → filledFrom f (lines text) ≡ whole
+    → filledFrom next (lines behind) ≡ whole
+unfolding filledFrom
 filled-on f next text behind found whole w e h =
-    ap (λ (g : Filling). filledWith g (lines behind)) e ∙ sym turned ∙ h
+    ap (λ (g : Filling). filledFrom g (lines behind)) e ∙ sym turned ∙ h
   where
-    turned : filledWith f (lines text) ≡ filledWith (afterLine found f) (lines behind)
+    turned : filledFrom f (lines text) ≡ filledFrom (afterLine found f) (lines behind)
     turned =
-        ap (filledWith f) (w .parted) ∙ ap (λ (l : Line). filledWith (afterLine l f) (lines behind)) (sym (w .says))
+        ap (filledFrom f) (w .parted) ∙ ap (λ (l : Line). filledFrom (afterLine l f) (lines behind)) (sym (w .says))
 
 pub lines-on : (line count : ℕ) (rows : List ℕ) (next : ℕ) (rows′ text behind : List ℕ) (found : Line) (whole : List ℕ)
     → FirstLine text found behind
@@ -97,10 +117,10 @@ lines-on line count rows next rows′ text behind found whole w e f h =
 -- ---- at the end of the text
 
 pub filled-whole : (f : Filling) (text : List ℕ) (at : ℕ) (whole : Filling) → length text ≤ at
-    → filledWith f (lines (drop at text)) ≡ whole
+    → filledFrom f (lines (drop at text)) ≡ whole
     → f ≡ whole
-unfolding filledWith pieces
-filled-whole f text at whole h e = sym (ap (λ (l : List ℕ). filledWith f (lines l)) (drop-of-length-le text h)) ∙ e
+unfolding filledFrom pieces
+filled-whole f text at whole h e = sym (ap (λ (l : List ℕ). filledFrom f (lines l)) (drop-of-length-le text h)) ∙ e
 
 pub lines-whole : (line count : ℕ) (rows text : List ℕ) (at : ℕ) (whole : List ℕ) → length text ≤ at
     → linesFrom line count rows (lines (drop at text)) ≡ whole

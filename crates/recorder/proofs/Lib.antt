@@ -4,5 +4,6 @@ pub mod LineFaults
 pub mod LineByLine
 pub mod CheckedOn
 pub mod FilledOn
+pub mod InPlain
 pub mod Marked
 pub mod Recordings

@@ -4,3 +4,5 @@ pub mod FirstLine
 pub mod ByName
 -- A register being filled, before a line and after it
 pub mod AfterLine
+-- A register filled, and the lines of its rows put down, line by line
+pub mod ByLine

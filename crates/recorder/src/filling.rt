@@ -1,11 +1,12 @@
 // The register of a text that is understood: its reports, each appended behind the last.
 ghost use mathlib.Core.Path.{_≡_};
-ghost use mathlib.Core.Bool.{cond};
+ghost use mathlib.Core.Bool.{cond, true};
 ghost use Prim.Native.Nat.{_+_, _<_, _^_};
-ghost use lib.ListN.{set};
+ghost use lib.ListN.{length, set};
 ghost use Rattle.recorder.specs.AfterLine.{afterLine, filling};
+ghost use Rattle.recorder.specs.ByLine.{filledFrom, linesFrom};
 ghost use Rattle.rules_plan.specs.Lines.{isReport};
-ghost use Rattle.rules_plan.specs.Recording.{filledWith, linesFrom, startedWith};
+ghost use Rattle.rules_plan.specs.Recording.{reportsSaid, startedWith};
 ghost use Rattle.rules_plan.specs.Words.{lines, unmarked};
 use crate::RegisterBytes;
 use crate::RowLines;
@@ -23,8 +24,9 @@ pub(crate) fn fill(
     register: &mut RegisterBytes,
     rows: &mut RowLines,
 )
-    ensures { λ _. ⌜ now (register .exit) ≡ filledWith (startedWith settings (now (register .entry))) (lines (unmarked (now (text .entry)))) .bytes ⌝ }
+    ensures { λ _. ⌜ now (register .exit) ≡ filledFrom (startedWith settings (now (register .entry))) (lines (unmarked (now (text .entry)))) .bytes ⌝ }
     ensures { λ _. ⌜ now (rows .exit) ≡ linesFrom 1 0 (now (rows .entry)) (lines (unmarked (now (text .entry)))) ⌝ }
+    ensures { λ _. ⌜ (0 < length (reportsSaid (now (text .entry))) → length (now (rows .entry)) ≡ 8190) ⌝ }
 {
     register::start(register, settings);
     let mut station = station::make(settings).station;
@@ -61,6 +63,7 @@ fn enter(
     requires { ⌜ count + 1 < 2 ^ 64 ⌝ }
     ensures { λ r. ⌜ filling (r .count) (r .station) (now (register .exit)) ≡ afterLine found (filling count station (now (register .entry))) ⌝ }
     ensures { λ _. ⌜ now (rows .exit) ≡ cond (isReport found) (set (now (rows .entry)) count line) (now (rows .entry)) ⌝ }
+    ensures { λ _. ⌜ (isReport found ≡ true → length (now (rows .entry)) ≡ 8190) ⌝ }
 {
     if !is_report(found) {
         return Entered { count, station };

@@ -5,6 +5,7 @@ mod parting;
 mod recording;
 mod saying;
 
+pub use parting::after_mark;
 pub use recording::record;
 
 // Room for any register, and for the line of each of its rows.

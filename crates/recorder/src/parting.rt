@@ -5,14 +5,14 @@ ghost use Prim.Native.Nat.{_≤_, _<_, suc};
 ghost use lib.Dec.{ltb};
 ghost use lib.ListN.{drop, length};
 ghost use Rattle.recorder.specs.FirstLine.{FirstLine};
-ghost use Rattle.rules_plan.specs.Words.{unmarked};
+ghost use Rattle.rules_plan.specs.Words.{markSize};
 use plan_lines::before_line_feed;
 use plan_lines::line_in;
 use rules_plan::Line;
 
 // Where the first line begins: behind the byte order mark, if there is one.
-pub(crate) fn after_mark(text: &[u8]) -> usize
-    ensures { λ r. ⌜ drop r (now (text .entry)) ≡ unmarked (now (text .entry)) ⌝ }
+pub fn after_mark(text: &[u8]) -> usize
+    ensures { λ r. ⌜ r ≡ markSize (now (text .entry)) ⌝ }
     ensures { λ r. ⌜ r ≤ length (now (text .entry)) ⌝ }
 {
     if text.len() < 3 {

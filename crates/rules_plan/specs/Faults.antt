@@ -27,7 +27,7 @@ setAlready = 7
 abbrev pub settingsMissing : ℕ
 settingsMissing = 8
 
--- the last of the six settings, which are outside their limits
+-- the setting with which all six are given, where the six are outside their limits
 abbrev pub settingsOutside : ℕ
 settingsOutside = 9
 

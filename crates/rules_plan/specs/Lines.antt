@@ -72,7 +72,7 @@ allMosts =
 unfoldable pub mosts : ℕ → List ℕ
 mosts name = getD allMosts name []
 
--- A number is a word of decimal digits alone.
+-- What is wrong with a word where a number up to a most is meant. A number is a word of decimal digits alone.
 abbrev pub numberFault : ℕ → List ℕ → ℕ
 numberFault most word = cond (eqb most byte) notAByte notSixteenBits if not (isThere (ourNumber most word)) then understood
 
@@ -90,7 +90,7 @@ byteAt words place = orElse 0 (ourNumber byte (getD words place []))
 abbrev pub numberAt : List (List ℕ) → ℕ → ℕ
 numberAt words place = orElse 0 (ourNumber sixteenBits (getD words place []))
 
--- They fill a report of their kind. That of a setting holds its number: tracks are a byte, a timer has sixteen bits.
+-- They fill a report of their kind. A setting's one number fills the field of its size: tracks, which are a byte, a; a timer, of sixteen bits, value.
 unfoldable pub numbersOf : ℕ → List (List ℕ) → Report
 numbersOf name words =
     getD
@@ -137,4 +137,4 @@ abbrev pub isSetting : Line → Bool
 isSetting l = ltb (l .name) 6
 
 abbrev pub isReport : Line → Bool
-isReport l = leb 6 (l .name) && ltb (l .name) 14
+isReport l = leb 6 (l .name) && ltb (l .name) otherWord

@@ -28,12 +28,17 @@ module _ {A : Type 0} where
 
 -- ---- lines
 
--- A byte order mark at the very start is passed over.
+-- a byte order mark
 abbrev pub mark : List ℕ
 mark = 0xEF ∷ 0xBB ∷ 0xBF ∷ []
 
+-- how many bytes of a text are one
+unfoldable pub markSize : List ℕ → ℕ
+markSize text = cond (same (take 3 text) mark) 3 0
+
+-- A byte order mark at the very start is passed over.
 unfoldable pub unmarked : List ℕ → List ℕ
-unmarked text = cond (same (take 3 text) mark) (drop 3 text) text
+unmarked text = drop (markSize text) text
 
 -- Lines end in a line feed.
 abbrev pub lineFeed : ℕ → Bool

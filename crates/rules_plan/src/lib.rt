@@ -78,7 +78,8 @@ pub struct Said {
     pub reports: usize,
 }
 
-// What is wrong with a text and on which line, counted from 1, or 0 and 0; and what it says up to there.
+// What is wrong with a text, or 0; the line that is at fault, counted from 1, or 0 where none is, as when
+// the text ends too early; and what it says up to there.
 pub struct Checked {
     pub fault: u8,
     pub line: usize,

@@ -10,7 +10,7 @@ use Rattle.recorder.proofs.CheckedOn.{checked-on, checked-whole, stoppe
 use Rattle.recorder.proofs.OneLineMore.{one-report-more}
 use Rattle.recorder.proofs.checking.check.Statement.{statement}
 use Rattle.rules_plan.specs.Faults.{checked, checkedFrom, nothingSaid}
-use Rattle.rules_plan.specs.Words.{lines}
+use Rattle.rules_plan.specs.Words.{lines, unmarked}
 use Rattle.rules_plan.specs.declared.Said.{Said}
 use Rattle.recorder.proofs.checking.check.Tie as tie
 
@@ -31,12 +31,13 @@ nothing-said-requires : tie.Need-nothing-said-requires Inv-loop μ-loop
 nothing-said-requires c κs = search needs
 
 loop-holds : tie.Need-loop-holds Inv-loop μ-loop
-unfolding checked nothingSaid
+unfolding checked nothingSaid unmarked
 loop-holds c =
     let said = c .nothing-said .ensures in
     let mark = c .before .after-mark .ensures in
+    let text = c .before .before .before .args .text .now in
     let none = ap (λ (s : Said). s .reports) said in
-    (mark .1, omega (arith, none), omega arith, λ i. checkedFrom 1 (said i) (lines (mark .0 i)))
+    (mark .1, omega (arith, none), omega arith, λ i. checkedFrom 1 (said i) (lines (drop (mark .0 i) text)))
 
 line-from-requires : tie.Need-line-from-requires Inv-loop μ-loop
 line-from-requires c κs = search needs

@@ -1,5 +1,6 @@
 -- `enter`: a report is appended and its line put down; another line changes nothing.
 -- Assumes nothing.
+use mathlib.Core.Bool.{false≢true}
 use mathlib.Core.Path.{sym, _∙_}
 use native.Mathlib.Numerals.{add-one}
 use borrow.Author.Tests.{not-false, not-true}
@@ -15,7 +16,8 @@ returns : tie.Need-returns
 returns c =
     let given = c .before .before .args in
     let other = sym (c .before .is-report .ensures) ∙ not-true _ (c .if1 .taken) in
-    (not-entered (given .found) _ other, none-put (given .found) (given .rows .now) (given .count) (given .line) other)
+    let none = none-put (given .found) (given .rows .now) (given .count) (given .line) other in
+    (not-entered (given .found) _ other, (none, λ e. absurd (false≢true (sym other ∙ e))))
 
 append-requires : tie.Need-append-requires
 append-requires c κs = search needs
@@ -32,9 +34,10 @@ returns-2 c =
     let added = put .before .before in
     let asked = added .before .before .before in
     let given = asked .before .before .args in
-    let so = sym (asked .before .is-report .ensures) ∙ not-false _ (asked .if1 .left) in (
+    let so = sym (asked .before .is-report .ensures) ∙ not-false _ (asked .if1 .left) in
+    let down = put-down (given .found) (given .rows .now) (given .count) (given .line) _ so (put .put-line .ensures) in (
       entered-after (given .found) _ _ _ _ so (add-one _) (added .append .ensures .0) (added .append .ensures .1),
-      put-down (given .found) (given .rows .now) (given .count) (given .line) _ so (put .put-line .ensures),
+      (down, λ e. search needs),
     )
 
 pub enter-spec : {M : Type 1} → statement M

@@ -20,12 +20,16 @@ fill-requires c κs = search needs
 
 returns-2 : tie.Need-returns-2
 returns-2 c =
-    let tested = c .before .before .before .before .before in
+    let settings = c .before .before .before in
+    let tested = settings .before .before in
     let found = tested .before .before .check .ensures in
     let right = tested .if1 .left in
     let filled = c .fill .ensures in (
       all-recorded _ _ found right,
-      (bytes-recorded _ _ found right _ _ (filled .0), lines-recorded _ _ found right _ _ (filled .1)),
+      (
+        bytes-recorded _ _ found right _ _ (filled .0),
+        lines-recorded _ _ found right _ _ (filled .1 .0) (filled .1 .1),
+      ),
     )
 
 pub record-spec : {M : Type 1} → statement M
