@@ -37,9 +37,12 @@ fn in_words(said: Report) -> bool {
         ISLAND_FREE => placed(b"report    free", said),
         DETECTOR_FAILED => placed(b"report    failed", said),
         DETECTOR_RESTORED => placed(b"report    restored", said),
-        CLOCK => verb::write(b"report    clock") & number(said.value) & ended(),
+        CLOCK => verb::write(b"report    clock") & number(said.value) & verb::write(b"\n"),
         HEAD_CONDITION => {
-            verb::write(b"report    head") & number(said.a as u16) & number(said.value) & ended()
+            verb::write(b"report    head")
+                & number(said.a as u16)
+                & number(said.value)
+                & verb::write(b"\n")
         }
         _ => verb::write(b"report    normalise\n"),
     }
@@ -47,7 +50,7 @@ fn in_words(said: Report) -> bool {
 
 // A track and an island.
 fn placed(words: &[u8], said: Report) -> bool {
-    verb::write(words) & number(said.a as u16) & number(said.b as u16) & ended()
+    verb::write(words) & number(said.a as u16) & number(said.b as u16) & verb::write(b"\n")
 }
 
 fn in_numbers(said: Report) -> bool {
@@ -57,15 +60,11 @@ fn in_numbers(said: Report) -> bool {
         & number(said.b as u16)
         & number(said.spare as u16)
         & number(said.value)
-        & ended()
+        & verb::write(b"\n")
 }
 
 fn number(n: u16) -> bool {
     let mut digits = [0u8; 20];
     let length = io::decimal(n as u64, &mut digits);
     verb::write(b" ") & verb::write(&digits[..length])
-}
-
-fn ended() -> bool {
-    verb::write(b"\n")
 }

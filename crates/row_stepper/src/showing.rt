@@ -2,12 +2,21 @@
 use crate::reports::report;
 use crate::words::answer;
 use crate::words::aspect;
-use crate::words::line;
 use crate::words::refused;
 use rules::NOT_REPLAYED;
 use rules::Station;
 use rules::TrackPresence;
 use rules::ZoneDigits;
+
+// Room for any line.
+const LINE: usize = 80;
+
+// Writes a line of a label and three texts.
+fn line(label: &[u8], first: &[u8], second: &[u8], third: &[u8]) -> bool {
+    let mut text = [0u8; LINE];
+    let length = text::in_a_row(&mut text, label, first, second, third, b"\n");
+    verb::write(&text[..length])
+}
 
 // The row's number, as it was asked for.
 pub(crate) fn named(word: &[u8]) -> bool {

@@ -1,4 +1,4 @@
-// Lines, and answers and aspects by number and name. Each is written where it stands: a text cannot be returned.
+// Answers and aspects, by number and name. Each is written where it stands: a text cannot be returned.
 use rules::ALREADY_SO;
 use rules::BAD_FIELD;
 use rules::CLEARING;
@@ -18,62 +18,40 @@ use rules::OUTSIDE_LIMITS;
 use rules::PERMITTED;
 use rules::SURROUNDINGS;
 
-// Room for any line.
-const LINE: usize = 80;
-
-// Writes a line of a label and three texts.
-pub(crate) fn line(label: &[u8], first: &[u8], second: &[u8], third: &[u8]) -> bool {
-    let mut text = [0u8; LINE];
-    let length = text::in_a_row(&mut text, label, first, second, third, b"\n");
-    verb::write(&text[..length])
-}
-
 // The answer of an entry: no other than 0 to 7 is entered.
 pub(crate) fn answer(number: u8) -> bool {
     match number {
-        DONE => answered(b"0 ", b"done"),
-        NO_SUCH_KIND => answered(b"1 ", b"no such kind of report"),
-        BAD_FIELD => answered(b"2 ", b"a field of the report is not as its kind has it"),
-        NO_SUCH_TRACK => answered(b"3 ", b"no such track"),
-        NO_SUCH_ISLAND => answered(b"4 ", b"no such island"),
-        NO_SUCH_HEAD => answered(b"5 ", b"no such head"),
-        ALREADY_SO => answered(b"6 ", b"occupied, free, failed or not failed already"),
-        NOT_CLEAR => answered(b"7 ", b"an island is occupied or a detector failed"),
-        _ => answered(b"?", b""),
+        DONE => verb::write(b"answer    0 done\n"),
+        NO_SUCH_KIND => verb::write(b"answer    1 no such kind of report\n"),
+        BAD_FIELD => verb::write(b"answer    2 a field of the report is not as its kind has it\n"),
+        NO_SUCH_TRACK => verb::write(b"answer    3 no such track\n"),
+        NO_SUCH_ISLAND => verb::write(b"answer    4 no such island\n"),
+        NO_SUCH_HEAD => verb::write(b"answer    5 no such head\n"),
+        ALREADY_SO => verb::write(b"answer    6 occupied, free, failed or not failed already\n"),
+        NOT_CLEAR => verb::write(b"answer    7 an island is occupied or a detector failed\n"),
+        _ => verb::write(b"answer    ?\n"),
     }
-}
-
-fn answered(number: &[u8], words: &[u8]) -> bool {
-    line(b"answer    ", number, words, b"")
 }
 
 // What stepping is refused with, but for 13, which names an entry.
 pub(crate) fn refused(number: u8) -> bool {
     match number {
-        OUTSIDE_LIMITS => why(b"8", b": a setting is outside its limits"),
-        NOT_A_REGISTER => why(b"9", b": not a register"),
-        OTHER_VERSION => why(b"10", b": a register of another version"),
-        CUT_ENTRY => why(b"11", b": the last entry is cut"),
-        NO_ROOM => why(b"12", b": too many entries"),
-        _ => why(b"14", b": no such row"),
+        OUTSIDE_LIMITS => verb::write(b"refused   8: a setting is outside its limits\n"),
+        NOT_A_REGISTER => verb::write(b"refused   9: not a register\n"),
+        OTHER_VERSION => verb::write(b"refused   10: a register of another version\n"),
+        CUT_ENTRY => verb::write(b"refused   11: the last entry is cut\n"),
+        NO_ROOM => verb::write(b"refused   12: too many entries\n"),
+        _ => verb::write(b"refused   14: no such row\n"),
     }
-}
-
-fn why(number: &[u8], words: &[u8]) -> bool {
-    line(b"refused   ", number, words, b"")
 }
 
 pub(crate) fn aspect(number: u8) -> bool {
     match number {
-        PERMITTED => shown(b"0 ", b"permitted"),
-        CLEARING => shown(b"1 ", b"clearing"),
-        FORBIDDEN => shown(b"2 ", b"forbidden"),
-        GREATEST_RISK => shown(b"3 ", b"greatest risk"),
-        SURROUNDINGS => shown(b"4 ", b"trains in the surroundings"),
-        _ => shown(b"5 ", b"out of service"),
+        PERMITTED => verb::write(b"aspect    0 permitted\n"),
+        CLEARING => verb::write(b"aspect    1 clearing\n"),
+        FORBIDDEN => verb::write(b"aspect    2 forbidden\n"),
+        GREATEST_RISK => verb::write(b"aspect    3 greatest risk\n"),
+        SURROUNDINGS => verb::write(b"aspect    4 trains in the surroundings\n"),
+        _ => verb::write(b"aspect    5 out of service\n"),
     }
-}
-
-fn shown(number: &[u8], name: &[u8]) -> bool {
-    line(b"aspect    ", number, name, b"")
 }
