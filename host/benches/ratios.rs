@@ -150,11 +150,15 @@ fn registers() {
             || library_sum(&register.step(4095).expect("there is such a row")),
             || paper_sum(&paper::step(black_box(&bytes), 4095).station),
         );
-        assert_eq!(degvuurel::print(&bytes, &mut text).as_bytes(), paper::print(&bytes), "the sheets of {name} differ");
+        assert_eq!(
+            degvuurel::print(&bytes, &mut text).map(str::as_bytes),
+            Ok(&paper::print(&bytes)[..]),
+            "the sheets of {name} differ"
+        );
         line(
             &format!("a row printed, of 8,190: {name}"),
             8190,
-            || degvuurel::print(&bytes, &mut text).len() as u64,
+            || degvuurel::print(&bytes, &mut text).map_or(0, str::len) as u64,
             || paper::print(black_box(&bytes)).len() as u64,
         );
     }

@@ -1,7 +1,7 @@
 //! A bench: a planner's text sets it up, reports are entered as they come, rows are looked at again, and the passenger screens are
 //! told what is shown last.
 
-use degvuurel::{record, Answer, Message, Recorder, Refusal, Register, Report, MOST_BYTES};
+use degvuurel::{record, Answer, IslandNumber, Message, Recorder, Refusal, Register, Report, TrackNumber};
 use std::error::Error;
 
 const PLAN: &[u8] = b"tracks 2\nt1 300\nt2 300\nt3 300\nt4 50\nt5 600\n\nnormalise\n";
@@ -11,7 +11,14 @@ const STATION: u16 = 7;
 
 /// What the detectors would send.
 fn coming() -> [Report; 5] {
-    [Report::occupied(0, 4), Report::occupied(0, 4), Report::occupied(1, 0), Report::free(1, 0), Report::clock(50)]
+    let (first, second) = (TrackNumber(0), TrackNumber(1));
+    [
+        Report::occupied(first, IslandNumber::ADVANCE_2),
+        Report::occupied(first, IslandNumber::ADVANCE_2),
+        Report::occupied(second, IslandNumber::ADVANCE_1),
+        Report::free(second, IslandNumber::ADVANCE_1),
+        Report::clock(50),
+    ]
 }
 
 /// Enters a report, and says what is shown then.
@@ -21,7 +28,8 @@ fn enter(recorder: &mut Recorder, report: Report) -> Result<(), Refusal> {
     if answer != Answer::Done {
         println!("{report} will be refused by {}: {answer}", answer.number());
     }
-    recorder.append(report)?;
+    let entered = recorder.append(report)?;
+    assert_eq!(entered, answer, "it is answered as it was said to be");
     let aspect = recorder.station().aspect();
     println!("row {}: {report}, {aspect}, {}", recorder.count(), aspect.outputs());
     Ok(())
@@ -42,10 +50,7 @@ fn look_again(register: Register) -> Result<(), Refusal> {
 fn main() -> Result<(), Box<dyn Error>> {
     let plan = record(PLAN)?;
     println!("row 1 is line {} of the plan", plan.line_of(1).unwrap_or(0));
-    let mut bytes = plan.into_bytes();
-    let filled = bytes.len();
-    bytes.resize(MOST_BYTES, 0);
-    let mut recorder = Recorder::resume(&mut bytes, filled)?;
+    let mut recorder = Recorder::resume(plan.into_bytes())?;
     for report in coming() {
         enter(&mut recorder, report)?;
     }

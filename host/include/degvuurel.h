@@ -9,9 +9,14 @@
  * - The text of degvuurel_print has room for DEGVUUREL_SHEET bytes. The register of degvuurel_record has room for
  *   DEGVUUREL_MOST_BYTES bytes, and its rows for DEGVUUREL_MOST lines.
  *
- * Nothing is kept between calls. A station is a plain value: it goes in, and the next one comes back. */
+ * Nothing is kept between calls. A station is a plain value: it goes in, and the next one comes back. degvuurel_words.h has the
+ * numbers in words, for whoever shows them. */
 #ifndef DEGVUUREL_H
 #define DEGVUUREL_H
+
+#if !defined(__linux__) || !defined(__LP64__) || !(defined(__x86_64__) || (defined(__aarch64__) && defined(__AARCH64EL__)))
+#error "degvuurel: the proved library is for Linux on x86-64 and on 64-bit Arm"
+#endif
 
 #include <stdbool.h>
 #include <stddef.h>
@@ -74,6 +79,26 @@ enum {
     DEGVUUREL_SETTINGS_OUTSIDE = 9,  /* with this the settings are outside their limits */
     DEGVUUREL_TOO_MANY_REPORTS = 10, /* more than 8190 reports */
     DEGVUUREL_TEXT_ENDS = 11         /* the text ends before all six settings */
+};
+
+/* The words that a line of a planner's text begins with: a setting or a kind of report; another word; or none. */
+enum {
+    DEGVUUREL_WORD_TRACKS = 0,
+    DEGVUUREL_WORD_T1 = 1,
+    DEGVUUREL_WORD_T2 = 2,
+    DEGVUUREL_WORD_T3 = 3,
+    DEGVUUREL_WORD_T4 = 4,
+    DEGVUUREL_WORD_T5 = 5,
+    DEGVUUREL_WORD_OCCUPIED = 6,
+    DEGVUUREL_WORD_FREE = 7,
+    DEGVUUREL_WORD_CLOCK = 8,
+    DEGVUUREL_WORD_FAILED = 9,
+    DEGVUUREL_WORD_RESTORED = 10,
+    DEGVUUREL_WORD_HEAD = 11,
+    DEGVUUREL_WORD_NORMALISE = 12,
+    DEGVUUREL_WORD_REPORT = 13,
+    DEGVUUREL_OTHER_WORD = 14,
+    DEGVUUREL_NO_WORD = 15
 };
 
 /* The bytes of a register's header and of an entry, the most entries, and the bytes of the longest sheet. */
@@ -231,6 +256,14 @@ struct degvuurel_recorded {
     size_t count;
 };
 
+/* What a line of a planner's text says: the word that it begins with, what is wrong with its words by themselves, or 0, and its
+ * numbers, each in the field of a report that it fills: those of a report are the report, tracks stand in a, a timer in value. */
+struct degvuurel_line {
+    uint8_t name;
+    uint8_t fault;
+    struct degvuurel_report numbers;
+};
+
 /* The archive has these sizes. A compiler that is told to pack structs, or to count in 32 bits, would hand over other bytes: it
  * stops here, at an array of less than no bytes. */
 #define DEGVUUREL_SIZE(name, bytes) typedef char degvuurel_size_of_##name[sizeof(struct degvuurel_##name) == (bytes) ? 1 : -1]
@@ -254,7 +287,13 @@ DEGVUUREL_SIZE(message, 24);
 DEGVUUREL_SIZE(received, 26);
 DEGVUUREL_SIZE(written, 16);
 DEGVUUREL_SIZE(recorded, 24);
+DEGVUUREL_SIZE(line, 8);
 #undef DEGVUUREL_SIZE
+
+/* The layout that this header is of: 1. Whoever includes the header names the function, so that an archive of another layout does
+ * not link. */
+uint8_t degvuurel_layout_1(void);
+__attribute__((used)) static uint8_t (*const degvuurel_layout_needed)(void) = degvuurel_layout_1;
 
 /* A fresh station. Where the settings are refused with 8, one of the least settings. */
 struct degvuurel_made degvuurel_make(struct degvuurel_settings settings);
@@ -330,6 +369,9 @@ struct degvuurel_report degvuurel_report_in(const uint8_t *entry, size_t length)
  * stays as it was; where something is wrong with the text, nothing is written at all. */
 struct degvuurel_recorded degvuurel_record(const uint8_t *text, size_t length, uint8_t *bytes, size_t *rows);
 
+/* What a line of a planner's text says, without its line feed. */
+struct degvuurel_line degvuurel_line_in(const uint8_t *line, size_t length);
+
 /* Writes what is printed of an input at the start of text, which has DEGVUUREL_SHEET bytes, and answers its length. The text is
  * not ended by a 0. */
 size_t degvuurel_print(const uint8_t *input, size_t length, uint8_t *text);
@@ -349,13 +391,14 @@ size_t degvuurel_refusal_line(uint8_t *out, size_t length, uint8_t answer, uint6
  * four tracks of 0. */
 struct degvuurel_message degvuurel_message_of(uint16_t number, struct degvuurel_station station);
 
-/* Writes a message as one JSON object at the start of the bytes, gives its length, and touches no byte past it; DEGVUUREL_MESSAGE bytes are always
- * enough. 16 where the aspect is above 5, the tracks are not 1 to 4, a digit is above 1, or one of a track that is not there is not
+/* Writes a message as one JSON object at the start of the bytes, gives its length, and touches no byte past it;
+ * DEGVUUREL_MESSAGE bytes are always enough. 16 where the aspect is above 5, the tracks are not 1 to 4, a digit is above 1, or one of a track that is not there is not
  * 0; then 12 where the text does not fit. Refused, nothing is written. The text is not ended by a 0. */
 struct degvuurel_written degvuurel_write_message(struct degvuurel_message message, uint8_t *bytes, size_t length);
 
-/* Reads a message from any RFC 8259 text in UTF-8 of at most DEGVUUREL_MESSAGE_READ bytes, with lists and objects at most 8 deep: the
- * first member of each of our names in the outermost object counts, names compared after escapes, and other members are skipped. 15 or 16 where it is refused. */
+/* Reads a message from any RFC 8259 text in UTF-8 of at most DEGVUUREL_MESSAGE_READ bytes, with lists and objects at most 8 deep:
+ * the first member of each of our names in the outermost object counts, names compared after escapes, and other members are
+ * skipped. 15 or 16 where it is refused. */
 struct degvuurel_received degvuurel_read_message(const uint8_t *text, size_t length);
 
 #ifdef __cplusplus

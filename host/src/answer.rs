@@ -9,9 +9,11 @@ use std::fmt;
 /// use degvuurel::Answer;
 ///
 /// assert_eq!(Answer::AlreadySo.number(), 6);
-/// assert_eq!(Answer::of(6), Some(Answer::AlreadySo));
+/// assert_eq!(Answer::try_from(6), Ok(Answer::AlreadySo));
 /// assert_eq!(Answer::AlreadySo.to_string(), "occupied, free, failed or not failed already");
+/// assert_eq!(Answer::AlreadySo.done().unwrap_err().to_string(), "refused 6: occupied, free, failed or not failed already");
 /// ```
+#[must_use = "a report refused by 1 to 7 is entered too, and its answer says so"]
 #[derive(Clone, Copy, Debug, PartialEq, Eq, Hash, PartialOrd, Ord)]
 #[repr(u8)]
 pub enum Answer {
@@ -90,12 +92,42 @@ impl Answer {
         Answer::of(number).expect("the library answers 0 to 16")
     }
 
-    /// Nothing where it is done, else the refusal.
-    pub(crate) fn checked(self) -> Result<(), Refusal> {
+    /// Nothing where it is [`Answer::Done`], else the refusal: for whoever takes a refused report for an error.
+    ///
+    /// # Errors
+    ///
+    /// Every answer but 0.
+    pub fn done(self) -> Result<(), Refusal> {
         match self {
             Answer::Done => Ok(()),
             answer => Err(Refusal { answer, entry: 0 }),
         }
+    }
+}
+
+/// A number that is no answer, aspect or fault.
+#[derive(Clone, Copy, Debug, PartialEq, Eq, Hash)]
+pub struct NoSuchNumber(pub u8);
+
+impl fmt::Display for NoSuchNumber {
+    fn fmt(&self, f: &mut fmt::Formatter<'_>) -> fmt::Result {
+        f.pad(&format!("{} is no number that the library gives", self.0))
+    }
+}
+
+impl Error for NoSuchNumber {}
+
+impl TryFrom<u8> for Answer {
+    type Error = NoSuchNumber;
+
+    fn try_from(number: u8) -> Result<Answer, NoSuchNumber> {
+        Answer::of(number).ok_or(NoSuchNumber(number))
+    }
+}
+
+impl From<Answer> for u8 {
+    fn from(answer: Answer) -> u8 {
+        answer.number()
     }
 }
 
@@ -147,7 +179,6 @@ impl Refusal {
     }
 
     /// The answer, which is not [`Answer::Done`].
-    #[must_use]
     pub fn answer(self) -> Answer {
         self.answer
     }
@@ -167,11 +198,8 @@ impl Refusal {
 
 impl fmt::Display for Refusal {
     fn fmt(&self, f: &mut fmt::Formatter<'_>) -> fmt::Result {
-        write!(f, "refused {}", self.number())?;
-        if let Some(entry) = self.entry() {
-            write!(f, " at {entry}")?;
-        }
-        write!(f, ": {}", self.answer)
+        let at = self.entry().map_or(String::new(), |entry| format!(" at {entry}"));
+        f.pad(&format!("refused {}{at}: {}", self.number(), self.answer))
     }
 }
 

@@ -1,5 +1,6 @@
 //! What an aspect and a head show.
 
+use crate::answer::NoSuchNumber;
 use crate::declared;
 use std::fmt;
 
@@ -54,6 +55,20 @@ impl Aspect {
     /// The aspect that the library gave. It is proved to give none above 5.
     pub(crate) fn given(number: u8) -> Aspect {
         Aspect::of(number).expect("the library gives aspects 0 to 5")
+    }
+}
+
+impl TryFrom<u8> for Aspect {
+    type Error = NoSuchNumber;
+
+    fn try_from(number: u8) -> Result<Aspect, NoSuchNumber> {
+        Aspect::of(number).ok_or(NoSuchNumber(number))
+    }
+}
+
+impl From<Aspect> for u8 {
+    fn from(aspect: Aspect) -> u8 {
+        aspect.number()
     }
 }
 

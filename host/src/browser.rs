@@ -2,19 +2,19 @@
 
 use crate::answer::Refusal;
 use crate::declared;
+use crate::entry::Entry;
 use crate::register::{read_or_refused, Register};
-use crate::station::Station;
+use crate::structs::Station;
 
 /// A browser: a register and the row that it stands on. A move answers as stepping does, and a refused one keeps its place.
 ///
 /// ```
-/// use degvuurel::{Aspect, Recorder, Report, Settings};
+/// use degvuurel::{Aspect, IslandNumber, Recorder, Report, Settings, TrackNumber};
 ///
 /// # fn main() -> Result<(), degvuurel::Refusal> {
-/// let mut bytes = [0; 1024];
-/// let mut recorder = Recorder::start(&mut bytes, Settings { tracks: 1, t1: 300, t2: 300, t3: 300, t4: 0, t5: 600 })?;
-/// recorder.append(Report::normalise())?;
-/// recorder.append(Report::occupied(0, 2))?;
+/// let mut recorder = Recorder::start(Settings { tracks: 1, t1: 300, t2: 300, t3: 300, t4: 0, t5: 600 })?;
+/// recorder.append(Report::normalise())?.done()?;
+/// recorder.append(Report::occupied(TrackNumber(0), IslandNumber::CROSSING))?.done()?;
 ///
 /// let mut browser = recorder.register().browse();
 /// assert_eq!(browser.forward()?.aspect(), Aspect::Permitted);
@@ -51,30 +51,50 @@ impl<'a> Browser<'a> {
     }
 
     /// The station as it was after the row that it stands on.
+    ///
+    /// # Errors
+    ///
+    /// As [`Register::step`].
     pub fn station(&self) -> Result<Station, Refusal> {
         self.register.step(self.row)
     }
 
-    /// The eight bytes of the row that it stands on; row 0 has none.
-    pub fn entry(&self) -> Result<&'a [u8], Refusal> {
+    /// The entry of the row that it stands on; row 0 has none.
+    ///
+    /// # Errors
+    ///
+    /// As [`Register::entry`].
+    pub fn entry(&self) -> Result<Entry, Refusal> {
         self.register.entry(self.row)
     }
 
     /// Moves to a row.
+    ///
+    /// # Errors
+    ///
+    /// As [`Register::step`]; it stays where it stood.
     pub fn to_row(&mut self, row: usize) -> Result<Station, Refusal> {
         let bytes = self.register.bytes();
         // SAFETY: the pointer and the length are one slice.
         self.moved(unsafe { declared::degvuurel_browse(bytes.as_ptr(), bytes.len(), row) })
     }
 
-    /// One row forward. From the last row it is refused with 14.
+    /// One row forward.
+    ///
+    /// # Errors
+    ///
+    /// As [`Register::step`], 14 from the last row; it stays where it stood.
     pub fn forward(&mut self) -> Result<Station, Refusal> {
         let bytes = self.register.bytes();
         // SAFETY: the pointer and the length are one slice.
         self.moved(unsafe { declared::degvuurel_forward(bytes.as_ptr(), bytes.len(), self.row) })
     }
 
-    /// One row back. From row 0 it is refused with 14.
+    /// One row back.
+    ///
+    /// # Errors
+    ///
+    /// As [`Register::step`], 14 from row 0; it stays where it stood.
     pub fn back(&mut self) -> Result<Station, Refusal> {
         let bytes = self.register.bytes();
         // SAFETY: the pointer and the length are one slice.
@@ -86,5 +106,13 @@ impl<'a> Browser<'a> {
         let shown = read_or_refused(reading)?;
         self.row = shown.count;
         Ok(shown.station)
+    }
+}
+
+impl<'a> Register<'a> {
+    /// A browser of it, at row 0.
+    #[must_use]
+    pub fn browse(self) -> Browser<'a> {
+        Browser::open(self)
     }
 }

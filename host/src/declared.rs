@@ -5,12 +5,7 @@
 //! which is not read or written by anyone else meanwhile, and that a bool is 0 or 1. The safe functions of this package take slices
 //! and bools of Rust, for which both hold.
 
-use crate::message::Message;
-use crate::register::{MOST, MOST_BYTES};
-use crate::report::Report;
-use crate::sheet::{RowFields, SheetText};
-use crate::siting::{Metres, Seconds};
-use crate::station::{Settings, Station};
+use crate::structs::{Message, Metres, Report, RowFields, Seconds, Settings, SheetText, Station, MOST, MOST_BYTES};
 
 /// The answer to settings, and the station made of them.
 #[repr(C)]
@@ -90,6 +85,15 @@ pub struct Recorded {
     pub count: usize,
 }
 
+/// What a line of a planner's text says: the word that it begins with, by its number, what is wrong with it, or 0, and its numbers in
+/// the fields of a report.
+#[repr(C)]
+pub struct Line {
+    pub name: u8,
+    pub fault: u8,
+    pub numbers: Report,
+}
+
 /// Room for any register.
 pub type RegisterBytes = [u8; MOST_BYTES];
 
@@ -97,6 +101,8 @@ pub type RegisterBytes = [u8; MOST_BYTES];
 pub type RowLines = [usize; MOST];
 
 extern "C" {
+    pub fn degvuurel_layout_1() -> u8;
+
     pub fn degvuurel_make(settings: Settings) -> Made;
     pub fn degvuurel_take(station: Station, report: Report) -> Taken;
     pub fn degvuurel_answer(station: Station, report: Report) -> u8;
@@ -123,6 +129,7 @@ extern "C" {
     pub fn degvuurel_report_in(entry: *const u8, length: usize) -> Report;
 
     pub fn degvuurel_record(text: *const u8, length: usize, register: *mut RegisterBytes, rows: *mut RowLines) -> Recorded;
+    pub fn degvuurel_line_in(line: *const u8, length: usize) -> Line;
 
     pub fn degvuurel_print(input: *const u8, length: usize, text: *mut SheetText) -> usize;
     pub fn degvuurel_title_line(out: *mut u8, length: usize) -> usize;
@@ -133,3 +140,7 @@ extern "C" {
     pub fn degvuurel_write_message(message: Message, buffer: *mut u8, length: usize) -> Written;
     pub fn degvuurel_read_message(text: *const u8, length: usize) -> Received;
 }
+
+/// Names the layout that these declarations are of, so that an archive of another one does not link.
+#[used]
+static LAYOUT: unsafe extern "C" fn() -> u8 = degvuurel_layout_1;

@@ -9,29 +9,33 @@
 //! ```
 //! use degvuurel::{Aspect, Recorder, Report, Settings};
 //!
-//! # fn main() -> Result<(), degvuurel::Refusal> {
-//! let settings = Settings { tracks: 2, t1: 300, t2: 300, t3: 300, t4: 0, t5: 600 };
-//! let mut bytes = [0; 1024];
-//! let mut recorder = Recorder::start(&mut bytes, settings)?;
-//! recorder.append(Report::normalise())?;
-//! recorder.append(Report::occupied(0, 4))?;
+//! # fn main() -> Result<(), Box<dyn std::error::Error>> {
+//! let mut recorder = Recorder::start(Settings { tracks: 2, t1: 300, t2: 300, t3: 300, t4: 0, t5: 600 })?;
+//! recorder.append(Report::normalise())?.done()?;
+//! recorder.append("occupied 0 4".parse()?)?.done()?;
 //! assert_eq!(recorder.station().aspect(), Aspect::Clearing);
 //!
 //! // Stepping back shows the station as it was, whatever came later.
 //! let register = recorder.register();
 //! assert_eq!(register.step(1)?.aspect(), Aspect::Permitted);
-//! assert_eq!(register.sheet(), "entry zones outputs answer\n1 11111 100000000 0\n2 11110 010001000 0\n");
+//! assert_eq!(register.sheet()?, "entry zones outputs answer\n1 11111 100000000 0\n2 11110 010001000 0\n");
 //! # Ok(())
 //! # }
 //! ```
+//!
+//! **A report that is refused by 1 to 7 is no error here**: it is entered, and [`Recorder::append`] gives its [`Answer`]. Whoever takes it
+//! for an error says `.done()?`.
 
 #![warn(missing_docs)]
+#![warn(clippy::missing_errors_doc, clippy::must_use_candidate)]
 
 mod answer;
 mod aspect;
 mod browser;
 mod declared;
+mod entry;
 mod message;
+mod numbers;
 mod plan;
 mod recorder;
 mod register;
@@ -39,15 +43,20 @@ mod report;
 mod sheet;
 mod siting;
 mod station;
+mod structs;
+mod typed;
 
-pub use answer::{Answer, Refusal};
+pub use answer::{Answer, NoSuchNumber, Refusal};
 pub use aspect::{Aspect, Outputs};
 pub use browser::Browser;
-pub use message::{Message, MESSAGE, MESSAGE_READ};
+pub use entry::Entry;
+pub use numbers::{HeadNumber, IslandNumber, TrackNumber};
 pub use plan::{record, Fault, Misread, Plan};
 pub use recorder::{append, start, Recorder};
-pub use register::{Reading, Register, ENTRY, HEADER, MOST, MOST_BYTES};
-pub use report::{report_in, Report};
-pub use sheet::{print, refusal_line, row_line, title_line, RowFields, SheetText, SHEET};
-pub use siting::{advance, warning, Metres, Seconds};
-pub use station::{Island, Settings, Station, Track};
+pub use register::{Reading, Register};
+pub use report::{report_in, Kind, NoKind};
+pub use sheet::{print, refusal_line, row_line, title_line};
+pub use siting::{advance, warning};
+pub use structs::{Island, Message, Metres, Report, RowFields, Seconds, Settings, SheetText, Station, Track};
+pub use structs::{ENTRY, HEADER, MESSAGE, MESSAGE_READ, MOST, MOST_BYTES, SHEET};
+pub use typed::{NotAReport, NotSettings};

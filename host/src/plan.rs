@@ -1,7 +1,9 @@
 //! A planner's text: settings and reports in words, a line each.
 
+use crate::answer::NoSuchNumber;
 use crate::declared::{self, RegisterBytes, RowLines};
-use crate::register::{Register, ENTRY, HEADER, MOST, MOST_BYTES};
+use crate::register::Register;
+use crate::structs::{ENTRY, HEADER, MOST, MOST_BYTES};
 use std::error::Error;
 use std::fmt;
 
@@ -11,7 +13,7 @@ use std::fmt;
 /// use degvuurel::Fault;
 ///
 /// assert_eq!(Fault::WordTooMany.number(), 3);
-/// assert_eq!(Fault::of(3), Some(Fault::WordTooMany));
+/// assert_eq!(Fault::try_from(3), Ok(Fault::WordTooMany));
 /// assert_eq!(Fault::WordTooMany.to_string(), "a word too many");
 /// ```
 #[derive(Clone, Copy, Debug, PartialEq, Eq, Hash)]
@@ -68,6 +70,25 @@ impl Fault {
     pub fn number(self) -> u8 {
         self as u8
     }
+
+    /// The fault that the library found, or none where it is 0. It is proved to find none above 11.
+    pub(crate) fn given(number: u8) -> Option<Fault> {
+        (number != 0).then(|| Fault::of(number).expect("the library finds the faults 1 to 11"))
+    }
+}
+
+impl TryFrom<u8> for Fault {
+    type Error = NoSuchNumber;
+
+    fn try_from(number: u8) -> Result<Fault, NoSuchNumber> {
+        Fault::of(number).ok_or(NoSuchNumber(number))
+    }
+}
+
+impl From<Fault> for u8 {
+    fn from(fault: Fault) -> u8 {
+        fault.number()
+    }
 }
 
 impl fmt::Display for Fault {
@@ -101,8 +122,8 @@ pub struct Misread {
 impl fmt::Display for Misread {
     fn fmt(&self, f: &mut fmt::Formatter<'_>) -> fmt::Result {
         match self.line {
-            Some(line) => write!(f, "line {line}: {}", self.fault),
-            None => write!(f, "{}", self.fault),
+            Some(line) => f.pad(&format!("line {line}: {}", self.fault)),
+            None => self.fault.fmt(f),
         }
     }
 }
@@ -149,7 +170,7 @@ impl Plan {
 ///
 /// let text = b"tracks 2\nt1 300\nt2 300\nt3 300\nt4 0\nt5 600\n\nnormalise\noccupied 0 4  # a train comes\n";
 /// let plan = record(text).expect("nothing is wrong with it");
-/// assert_eq!(plan.register().sheet(), "entry zones outputs answer\n1 11111 100000000 0\n2 11110 010001000 0\n");
+/// assert_eq!(plan.register().sheet().unwrap(), "entry zones outputs answer\n1 11111 100000000 0\n2 11110 010001000 0\n");
 /// assert_eq!(plan.line_of(2), Some(9));
 ///
 /// let misread = record(b"tracks 2\nt1 300\nt2 300\nt3 300\nt4 0\nt5 600\n\nocupied 0 4\n").unwrap_err();
@@ -166,8 +187,7 @@ pub fn record(text: &[u8]) -> Result<Plan, Misread> {
     let rows: &mut RowLines = lines.as_mut_slice().try_into().expect("the room has the length of a register's rows");
     // SAFETY: the pointer and the length are one slice, and what is lent has its length and is lent to nobody else.
     let recorded = unsafe { declared::degvuurel_record(text.as_ptr(), text.len(), register, rows) };
-    if recorded.fault != 0 {
-        let fault = Fault::of(recorded.fault).expect("the library finds the faults 1 to 11");
+    if let Some(fault) = Fault::given(recorded.fault) {
         return Err(Misread { fault, line: (recorded.line != 0).then_some(recorded.line) });
     }
     bytes.truncate(HEADER + ENTRY * recorded.count);

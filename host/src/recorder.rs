@@ -2,18 +2,26 @@
 
 use crate::answer::{Answer, Refusal};
 use crate::declared;
-use crate::register::{Register, ENTRY, HEADER};
-use crate::report::Report;
-use crate::station::{Settings, Station};
+use crate::entry::Entry;
+use crate::register::Register;
+use crate::structs::{Report, Settings, Station, ENTRY, HEADER};
 
-/// Writes the header of these settings, and touches no other byte. 8 or 12 where it is refused, and then nothing is written.
+/// Writes the header of these settings at the start of lent bytes, and touches no other byte.
+///
+/// # Errors
+///
+/// 8 where the settings are outside their limits, 12 where there is no room. Then nothing is written.
 pub fn start(bytes: &mut [u8], settings: Settings) -> Result<(), Refusal> {
     // SAFETY: the pointer and the length are one slice, which nobody else has.
-    Answer::given(unsafe { declared::degvuurel_start(bytes.as_mut_ptr(), bytes.len(), settings) }).checked()
+    Answer::given(unsafe { declared::degvuurel_start(bytes.as_mut_ptr(), bytes.len(), settings) }).done()
 }
 
-/// Takes a report and enters it at entry k, counted from 0. It is entered where the answer is 0, and where it is 1 to 7 with the
-/// station as it was; with 8, 9, 10 or 12, which are the refusals here, nothing is taken or written.
+/// Takes a report and enters it in lent bytes at entry k, counted from 0. It is entered where the answer is 0, and where it is 1 to 7
+/// with the station as it was.
+///
+/// # Errors
+///
+/// 8, 9, 10 or 12. Then nothing is taken or written.
 pub fn append(bytes: &mut [u8], k: usize, station: &mut Station, report: Report) -> Result<Answer, Refusal> {
     // SAFETY: the pointer and the length are one slice, which nobody else has.
     let taken = unsafe { declared::degvuurel_append(bytes.as_mut_ptr(), bytes.len(), k, *station, report) };
@@ -22,74 +30,111 @@ pub fn append(bytes: &mut [u8], k: usize, station: &mut Station, report: Report)
     if answer <= Answer::NotClear {
         return Ok(answer);
     }
-    answer.checked().map(|()| answer)
+    answer.done().map(|()| answer)
 }
 
-/// Fills a register in lent bytes, from its header on, and keeps the station after the last entry.
+/// A register that is being filled. It holds its bytes, and the station after the last entry.
 ///
 /// ```
-/// use degvuurel::{Answer, Recorder, Report, Settings};
+/// use degvuurel::{Answer, Aspect, IslandNumber, Recorder, Report, Settings, TrackNumber};
 ///
 /// # fn main() -> Result<(), degvuurel::Refusal> {
-/// let mut bytes = [0; 32]; // a header and two entries
-/// let mut recorder = Recorder::start(&mut bytes, Settings { tracks: 1, t1: 300, t2: 300, t3: 300, t4: 0, t5: 600 })?;
-/// assert_eq!(recorder.append(Report::occupied(0, 2))?, Answer::Done);
-/// assert_eq!(recorder.append(Report::occupied(0, 2))?, Answer::AlreadySo); // refused, and entered all the same
-/// assert_eq!(recorder.append(Report::clock(1)).unwrap_err().answer(), Answer::NoRoom);
-/// assert_eq!(recorder.register().read()?.count, 2);
+/// let crossing = Report::occupied(TrackNumber(0), IslandNumber::CROSSING);
+/// let mut recorder = Recorder::start(Settings { tracks: 1, t1: 300, t2: 300, t3: 300, t4: 0, t5: 600 })?;
+/// recorder.append(Report::normalise())?.done()?; // for whoever takes a refused report for an error
+/// assert_eq!(recorder.append(crossing)?, Answer::Done);
+/// assert_eq!(recorder.append(crossing)?, Answer::AlreadySo); // refused, and entered all the same
+/// assert_eq!((recorder.count(), recorder.station().aspect()), (3, Aspect::Forbidden));
+///
+/// recorder.undo(1)?;
+/// assert_eq!((recorder.count(), recorder.station().aspect()), (1, Aspect::Permitted));
+/// assert_eq!(recorder.into_bytes().len(), 24); // a header, and one entry
 /// # Ok(())
 /// # }
 /// ```
-#[derive(Debug)]
-pub struct Recorder<'a> {
-    bytes: &'a mut [u8],
-    count: usize,
+#[derive(Clone, Debug, PartialEq, Eq)]
+pub struct Recorder {
+    /// Exactly the filled bytes.
+    bytes: Vec<u8>,
     station: Station,
 }
 
-impl<'a> Recorder<'a> {
-    /// Starts a register of these settings in lent bytes; 8 or 12 where it is refused.
-    pub fn start(bytes: &'a mut [u8], settings: Settings) -> Result<Recorder<'a>, Refusal> {
-        let station = Station::make(settings)?;
-        start(bytes, settings)?;
-        Ok(Recorder { bytes, count: 0, station })
+impl Recorder {
+    /// Starts a register of these settings.
+    ///
+    /// # Errors
+    ///
+    /// 8 where they are outside their limits.
+    pub fn start(settings: Settings) -> Result<Recorder, Refusal> {
+        let mut bytes = vec![0; HEADER];
+        start(&mut bytes, settings)?;
+        Ok(Recorder { bytes, station: Station::make(settings)? })
     }
 
-    /// Goes on with a register that fills the first bytes, so many of them. It is read first, and refused as reading refuses it.
+    /// Goes on with a register: exactly its filled bytes. It is read first.
     ///
     /// ```
-    /// use degvuurel::{Recorder, Report, Settings};
-    ///
+    /// # use degvuurel::{Recorder, Report, Settings};
     /// # fn main() -> Result<(), degvuurel::Refusal> {
-    /// let mut bytes = [0; 1024];
-    /// let mut recorder = Recorder::start(&mut bytes, Settings { tracks: 1, t1: 300, t2: 300, t3: 300, t4: 0, t5: 600 })?;
-    /// recorder.append(Report::normalise())?;
-    /// let filled = recorder.register().bytes().len();
-    ///
-    /// let mut recorder = Recorder::resume(&mut bytes, filled)?;
-    /// recorder.append(Report::occupied(0, 2))?;
+    /// # let mut recorder = Recorder::start(Settings { tracks: 1, t1: 300, t2: 300, t3: 300, t4: 0, t5: 600 })?;
+    /// # recorder.append(Report::normalise())?.done()?;
+    /// let saved = recorder.into_bytes();
+    /// let mut recorder = Recorder::resume(saved)?;
+    /// recorder.append(Report::clock(50))?.done()?;
     /// assert_eq!(recorder.count(), 2);
     /// # Ok(())
     /// # }
     /// ```
-    pub fn resume(bytes: &'a mut [u8], filled: usize) -> Result<Recorder<'a>, Refusal> {
-        let filled = filled.min(bytes.len());
-        let reading = Register::new(&bytes[..filled]).read()?;
-        Ok(Recorder { bytes, count: reading.count, station: reading.station })
+    ///
+    /// # Errors
+    ///
+    /// 8 to 13, as reading refuses it.
+    pub fn resume(bytes: Vec<u8>) -> Result<Recorder, Refusal> {
+        let station = Register::new(&bytes).read()?.station;
+        Ok(Recorder { bytes, station })
     }
 
-    /// Takes a report and enters it. It is entered where the answer is 0, and where it is 1 to 7 with the station as it was. With
-    /// 12 there is no room for it.
+    /// Takes a report and enters it. Where it is refused by 1 to 7 the station stays as it was, and it is entered all the same: the
+    /// answer says so, and the compiler warns of whoever drops it.
+    ///
+    /// ```compile_fail
+    /// #![deny(unused_must_use)]
+    /// # use degvuurel::{Recorder, Report, Settings};
+    /// # fn main() -> Result<(), degvuurel::Refusal> {
+    /// # let mut recorder = Recorder::start(Settings { tracks: 1, t1: 300, t2: 300, t3: 300, t4: 0, t5: 600 })?;
+    /// recorder.append(Report::clock(0))?;
+    /// # Ok(())
+    /// # }
+    /// ```
+    ///
+    /// # Errors
+    ///
+    /// 12 where there are [`MOST`](crate::MOST) entries. Then nothing is taken or entered.
     pub fn append(&mut self, report: Report) -> Result<Answer, Refusal> {
-        let answer = append(self.bytes, self.count, &mut self.station, report)?;
-        self.count += 1;
-        Ok(answer)
+        let (filled, count) = (self.bytes.len(), self.count());
+        self.bytes.resize(filled + ENTRY, 0);
+        let answer = append(&mut self.bytes, count, &mut self.station, report);
+        if answer.is_err() {
+            self.bytes.truncate(filled);
+        }
+        answer
+    }
+
+    /// Goes back to a row: the rows after it are gone, and the station is as it was after that row. Row 0 is before the first report.
+    ///
+    /// # Errors
+    ///
+    /// 14 where there is no such row. Then nothing is gone.
+    pub fn undo(&mut self, row: usize) -> Result<(), Refusal> {
+        self.station = self.register().step(row)?;
+        self.bytes.truncate(HEADER + ENTRY * row);
+        Ok(())
     }
 
     /// The number of entries.
     #[must_use]
     pub fn count(&self) -> usize {
-        self.count
+        (self.bytes.len() - HEADER) / ENTRY
     }
 
     /// The station after the last entry.
@@ -98,9 +143,21 @@ impl<'a> Recorder<'a> {
         &self.station
     }
 
-    /// The register as it is filled by now.
+    /// Every row's entry, row 1 first. Nothing is replayed: the register was filled here, or read.
+    #[must_use]
+    pub fn entries(&self) -> impl DoubleEndedIterator<Item = Entry> + ExactSizeIterator + '_ {
+        Entry::all(&self.bytes)
+    }
+
+    /// The register as it is filled by now, to step back through, to browse or to print.
     #[must_use]
     pub fn register(&self) -> Register<'_> {
-        Register::new(&self.bytes[..HEADER + ENTRY * self.count])
+        Register::new(&self.bytes)
+    }
+
+    /// Its bytes, to keep.
+    #[must_use]
+    pub fn into_bytes(self) -> Vec<u8> {
+        self.bytes
     }
 }

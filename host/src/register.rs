@@ -1,22 +1,8 @@
 //! Reading a register: document 01, "The register".
 
 use crate::answer::{Answer, Refusal};
-use crate::browser::Browser;
 use crate::declared;
-use crate::sheet;
-use crate::station::{Settings, Station};
-
-/// The bytes of the header.
-pub const HEADER: usize = 16;
-
-/// The bytes of an entry.
-pub const ENTRY: usize = 8;
-
-/// The most entries that a register has.
-pub const MOST: usize = 8190;
-
-/// The bytes of a register of [`MOST`] entries.
-pub const MOST_BYTES: usize = HEADER + ENTRY * MOST;
+use crate::structs::{Settings, Station};
 
 /// A register in lent bytes: exactly the filled ones. Any bytes can be looked at as one; whether they are, each function answers.
 /// Nothing is kept between calls, so a row shown is that row, whatever was shown before.
@@ -63,12 +49,20 @@ impl<'a> Register<'a> {
     }
 
     /// Replays the whole register.
+    ///
+    /// # Errors
+    ///
+    /// 8 to 13, as it is refused; 13 names the first entry that is not what the replay gives.
     pub fn read(self) -> Result<Reading, Refusal> {
         // SAFETY: the pointer and the length are one slice.
         read_or_refused(unsafe { declared::degvuurel_read(self.bytes.as_ptr(), self.bytes.len()) })
     }
 
-    /// The station as it was after a row. Row 0 is the fresh station, row 1 the first entry.
+    /// The station as it was after a row, from the entries up to it alone. Row 0 is the fresh station, row 1 the first entry.
+    ///
+    /// # Errors
+    ///
+    /// 8 to 13, as these entries are refused; 14 where there is no such row.
     pub fn step(self, row: usize) -> Result<Station, Refusal> {
         // SAFETY: the pointer and the length are one slice.
         let reading = unsafe { declared::degvuurel_step(self.bytes.as_ptr(), self.bytes.len(), row) };
@@ -76,7 +70,6 @@ impl<'a> Register<'a> {
     }
 
     /// What handing back a row is answered with: done where it has an entry.
-    #[must_use]
     pub fn entry_answer(self, row: usize) -> Answer {
         // SAFETY: the pointer and the length are one slice.
         Answer::given(unsafe { declared::degvuurel_entry_answer(self.bytes.as_ptr(), self.bytes.len(), row) })
@@ -85,36 +78,23 @@ impl<'a> Register<'a> {
     /// The eight bytes of a row's entry, where they lie in the lent register; they are not replayed.
     ///
     /// ```
-    /// use degvuurel::{Recorder, Report, Settings, report_in};
+    /// use degvuurel::{Recorder, Report, Settings};
     ///
     /// # fn main() -> Result<(), degvuurel::Refusal> {
-    /// let mut bytes = [0; 24];
-    /// let mut recorder = Recorder::start(&mut bytes, Settings { tracks: 1, t1: 1, t2: 1, t3: 1, t4: 0, t5: 2 })?;
-    /// recorder.append(Report::normalise())?;
-    /// let register = recorder.register();
-    /// assert_eq!(register.entry(1)?, [7, 0, 0, 0, 0, 0, 0, 0]);
-    /// assert_eq!(report_in(register.entry(1)?), Report::normalise());
-    /// assert_eq!(register.entry(0).unwrap_err().number(), 14);
+    /// let mut recorder = Recorder::start(Settings { tracks: 1, t1: 1, t2: 1, t3: 1, t4: 0, t5: 2 })?;
+    /// recorder.append(Report::normalise())?.done()?;
+    /// assert_eq!(recorder.register().entry_bytes(1)?, [7, 0, 0, 0, 0, 0, 0, 0]);
+    /// assert_eq!(recorder.register().entry_bytes(0).unwrap_err().number(), 14);
     /// # Ok(())
     /// # }
     /// ```
-    pub fn entry(self, row: usize) -> Result<&'a [u8], Refusal> {
+    ///
+    /// # Errors
+    ///
+    /// 8 to 12 where it is no register; 14 where there is no such row, and for row 0.
+    pub fn entry_bytes(self, row: usize) -> Result<&'a [u8], Refusal> {
         // SAFETY: the pointer and the length are one slice.
         let entry = unsafe { declared::degvuurel_entry(self.bytes.as_ptr(), self.bytes.len(), row) };
-        Answer::given(entry.answer).checked().map(|()| &self.bytes[entry.at..entry.at + entry.length])
-    }
-
-    /// A browser of it, at row 0.
-    #[must_use]
-    pub fn browse(self) -> Browser<'a> {
-        Browser::open(self)
-    }
-
-    /// Its sheet, a row for each report; or the one line of a register that cannot be read. To print many, lend [`print`](crate::print) one
-    /// buffer.
-    #[must_use]
-    pub fn sheet(self) -> String {
-        let mut text = sheet::room();
-        sheet::print(self.bytes, &mut text).to_owned()
+        Answer::given(entry.answer).done().map(|()| &self.bytes[entry.at..entry.at + entry.length])
     }
 }

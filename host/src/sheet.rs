@@ -1,30 +1,13 @@
 //! Sheets: document 01, "The matrix printer".
 
+use crate::answer::{Answer, Refusal};
 use crate::declared;
+use crate::register::Register;
+use crate::structs::{RowFields, SheetText, SHEET};
 use std::str;
 
-/// The bytes of the longest sheet.
-pub const SHEET: usize = 188_397;
-
-/// Room for any sheet.
-pub type SheetText = [u8; SHEET];
-
-/// What a row of a sheet shows.
-#[derive(Clone, Copy, Debug, PartialEq, Eq, Hash)]
-#[repr(C)]
-pub struct RowFields {
-    /// The entry's number, from 1.
-    pub entry: u64,
-    /// The zone digits in island order.
-    pub zones: [u8; 5],
-    /// The nine output bits, VF first.
-    pub outputs: u16,
-    /// The answer.
-    pub answer: u8,
-}
-
 /// Room for a sheet, which is too large for a stack to be sure of.
-pub(crate) fn room() -> Box<SheetText> {
+fn room() -> Box<SheetText> {
     vec![0; SHEET].into_boxed_slice().try_into().expect("the room has the length of a sheet")
 }
 
@@ -33,17 +16,41 @@ fn text_of(bytes: &[u8]) -> &str {
     str::from_utf8(bytes).expect("the library writes plain text")
 }
 
-/// Writes what is printed of a register at the start of the text, and returns it: its sheet, or the one line of a register that
-/// cannot be read.
+/// The refusal that the one line of a register tells which cannot be read: `refused 9`, or `refused 13 at 2`. A sheet tells none.
+fn refusal_in(text: &str) -> Option<Refusal> {
+    let numbers: Vec<usize> = text.strip_prefix("refused ")?.split_whitespace().filter_map(|word| word.parse().ok()).collect();
+    let answer = Answer::given(u8::try_from(*numbers.first()?).ok()?);
+    Some(Refusal::naming(answer, numbers.get(1).copied().unwrap_or(0)))
+}
+
+/// Writes the sheet of a register at the start of the text, and returns it: a row for each report.
 ///
 /// ```
 /// let mut text = Box::new([0; degvuurel::SHEET]);
-/// assert_eq!(degvuurel::print(b"no register", &mut text), "refused 9\n");
+/// assert_eq!(degvuurel::print(b"no register", &mut text).unwrap_err().number(), 9);
+/// assert_eq!(text[..10], *b"refused 9\n");
 /// ```
-pub fn print<'t>(input: &[u8], text: &'t mut SheetText) -> &'t str {
+///
+/// # Errors
+///
+/// 12 where there are more than [`MOST_BYTES`](crate::MOST_BYTES) bytes, else 8 to 13, as reading the register is refused. The text
+/// then begins with the one line that the printer shows of it.
+pub fn print<'t>(input: &[u8], text: &'t mut SheetText) -> Result<&'t str, Refusal> {
     // SAFETY: the pointer and the length are one slice, and the text is lent to nobody else.
     let length = unsafe { declared::degvuurel_print(input.as_ptr(), input.len(), text) };
-    text_of(&text[..length])
+    let printed = text_of(&text[..length]);
+    refusal_in(printed).map_or(Ok(printed), Err)
+}
+
+impl Register<'_> {
+    /// Its sheet, a row for each report. To print many, lend [`print`](crate::print) one buffer.
+    ///
+    /// # Errors
+    ///
+    /// As [`print`](crate::print).
+    pub fn sheet(self) -> Result<String, Refusal> {
+        print(self.bytes(), &mut room()).map(str::to_owned)
+    }
 }
 
 /// Writes the title line at the start of the bytes, and returns it. Where it does not fit, nothing is written and it is empty.

@@ -3,7 +3,9 @@
 #[path = "c/compiled.rs"]
 mod compiled;
 
-use compiled::{compiled, package, written_by, LANGUAGES};
+use compiled::{compiled, package, refused, written_by, LANGUAGES};
+use degvuurel::{Answer, Aspect, Fault};
+use std::fmt::{Display, Write};
 use std::fs;
 
 /// Structs go by value in other registers, or none, when a compiler does its best.
@@ -52,7 +54,7 @@ fn every_function_of_the_header_is_called() {
         .concat();
     let functions: Vec<&str> =
         header.split(|c: char| !c.is_alphanumeric() && c != '_' && c != '(').filter_map(function_in).collect();
-    assert_eq!(functions.len(), 30);
+    assert_eq!(functions.len(), 32);
     for function in functions {
         assert!(called.contains(&format!("{function}(")), "{function} is called by no program");
     }
@@ -62,4 +64,49 @@ fn every_function_of_the_header_is_called() {
 fn function_in(word: &str) -> Option<&str> {
     let (name, _) = word.split_once('(')?;
     name.starts_with("degvuurel_").then_some(name)
+}
+
+/// The words of numbers from 0 up to one that there is not.
+fn words<W: Display>(lines: &mut String, what: &str, past: u8, of: impl Fn(u8) -> Option<W>) {
+    for number in 0..=past {
+        let words = of(number).map_or("no such number".to_string(), |words| words.to_string());
+        writeln!(lines, "{what} {number}: {words}").expect("a string takes any text");
+    }
+}
+
+#[test]
+fn the_words_are_those_of_the_package() {
+    let mut lines = String::new();
+    words(&mut lines, "answer", 17, Answer::of);
+    words(&mut lines, "aspect", 6, Aspect::of);
+    words(&mut lines, "fault", 12, |number| {
+        if number == 0 {
+            Some("understood".to_string())
+        } else {
+            Fault::of(number).map(|fault| fault.to_string())
+        }
+    });
+    each_way("words", &["words.c"], &lines);
+}
+
+#[test]
+fn another_machine_is_refused_in_a_clear_line() {
+    for (compiler, language) in LANGUAGES {
+        for other in ["-U__linux__", "-U__LP64__"] {
+            let said = refused(compiler, &[language, &[other]].concat(), &["fill.c"]);
+            assert!(said.contains("degvuurel: the proved library is for Linux on x86-64 and on 64-bit Arm"), "{compiler}: {said}");
+        }
+    }
+}
+
+/// A header of another layout, or an archive of an older one, names a symbol that is not there.
+#[test]
+fn another_layout_does_not_link() {
+    for (compiler, language) in LANGUAGES {
+        for level in LEVELS {
+            let options = [language, &[level, "-Ddegvuurel_layout_1=degvuurel_layout_0"]].concat();
+            let said = refused(compiler, &options, &["fill.c"]);
+            assert!(said.contains("degvuurel_layout_0"), "{compiler}: {said}");
+        }
+    }
 }

@@ -62,7 +62,7 @@ fn sheets_are_printed() {
     for name in names("sheet") {
         let sheet = text_of(&name, "sheet");
         let plan = record(&bytes_of(&name, "txt")).unwrap_or_else(|misread| panic!("{name}: {misread}"));
-        assert_eq!(plan.register().sheet(), sheet, "{name}");
+        assert_eq!(plan.register().sheet().as_ref(), Ok(&sheet), "{name}");
         assert_eq!(paper::print(plan.register().bytes()), sheet.as_bytes(), "{name}, by the paper");
     }
 }

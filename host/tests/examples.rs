@@ -3,7 +3,7 @@
 #[path = "examples/run.rs"]
 mod run;
 
-use run::written;
+use run::{written, written_on};
 
 const FIRST: &str = "\
 entry zones outputs answer
@@ -24,6 +24,40 @@ forward to row 6: clearing
 forward again is refused 14: no such row; still at row 6
 {"station":7,"aspect":1,"tracks":[[1,1,1,1,0],[1,1,1,1,1]]}
 "#;
+
+/// A train comes, is entered twice by mistake, and a second one; the mistake is undone.
+const TYPED: &str = "\
+normalise
+occupied 0 4
+occupied 0 4
+occupied 1 0
+ocupied 1 0
+step 2
+step 9
+undo 2
+occupied 1 0
+sheet
+";
+
+const EDITED: &str = "\
+row 1: done; permitted
+row 2: done; clearing
+row 3: occupied, free, failed or not failed already; clearing
+row 4: done; greatest risk
+not a setting, and not a kind of report
+row 2 shows clearing
+refused 14: no such row
+row 3: done; greatest risk
+entry zones outputs answer
+1 11111 100000000 0
+2 11110 010001000 0
+3 01110 000110010 0
+";
+
+#[test]
+fn the_editor_does_what_is_typed() {
+    assert_eq!(written_on("editor", TYPED), EDITED);
+}
 
 #[test]
 fn the_examples_write_what_they_should() {

@@ -3,7 +3,7 @@
 
 include!("archive/declared.rs");
 
-use degvuurel::{Island, Message, Report, Seconds, Settings, Station, Track};
+use degvuurel::{HeadNumber, Island, IslandNumber, Message, Report, Seconds, Settings, Station, Track, TrackNumber};
 
 const WORKED: Settings = Settings { tracks: 2, t1: 300, t2: 300, t3: 300, t4: 0, t5: 600 };
 
@@ -24,12 +24,12 @@ const NO_KIND: Report = Report { kind: 8, a: 0, b: 0, spare: 1, value: 0 };
 /// A report of each kind, with nothing wrong in it.
 fn well_formed() -> [Report; 7] {
     [
-        Report::occupied(0, 3),
-        Report::free(0, 3),
+        Report::occupied(TrackNumber(0), IslandNumber(3)),
+        Report::free(TrackNumber(0), IslandNumber(3)),
         Report::clock(1),
-        Report::failed(0, 3),
-        Report::restored(0, 3),
-        Report::head(0, 8),
+        Report::failed(TrackNumber(0), IslandNumber(3)),
+        Report::restored(TrackNumber(0), IslandNumber(3)),
+        Report::head(HeadNumber(0), 8),
         Report::normalise(),
     ]
 }
@@ -78,16 +78,16 @@ fn refused_reports_of_a_busy_station() {
     let reports = [
         (NO_KIND, 1),
         (Report::clock(0), 2),
-        (Report { spare: 1, ..Report::occupied(9, 9) }, 2),
-        (Report::head(0, 1024), 2),
-        (Report::occupied(2, 9), 3),
-        (Report::restored(255, 0), 3),
-        (Report::occupied(1, 5), 4),
-        (Report::head(2, 0), 5),
-        (Report::occupied(0, 0), 6),
-        (Report::free(0, 1), 6),
-        (Report::failed(1, 0), 6),
-        (Report::restored(0, 1), 6),
+        (Report { spare: 1, ..Report::occupied(TrackNumber(9), IslandNumber(9)) }, 2),
+        (Report::head(HeadNumber(0), 1024), 2),
+        (Report::occupied(TrackNumber(2), IslandNumber(9)), 3),
+        (Report::restored(TrackNumber(255), IslandNumber(0)), 3),
+        (Report::occupied(TrackNumber(1), IslandNumber(5)), 4),
+        (Report::head(HeadNumber(2), 0), 5),
+        (Report::occupied(TrackNumber(0), IslandNumber(0)), 6),
+        (Report::free(TrackNumber(0), IslandNumber(1)), 6),
+        (Report::failed(TrackNumber(1), IslandNumber(0)), 6),
+        (Report::restored(TrackNumber(0), IslandNumber(1)), 6),
         (Report::normalise(), 7),
     ];
     for (report, answer) in reports {
@@ -104,7 +104,7 @@ fn what_is_not_read() {
     station.hold = 0;
     assert_eq!((station.aspect().number(), station.zones(), station.presence()), (0, [1; 5], [false; 4]));
     let old = station;
-    for report in [Report::clock(1000), Report::normalise(), Report::occupied(0, 4), Report::clock(1)] {
+    for report in [Report::clock(1000), Report::normalise(), Report::occupied(TrackNumber(0), IslandNumber(4)), Report::clock(1)] {
         station.take(report).expect("nothing is wrong with it");
         assert_eq!(station.tracks[1..], old.tracks[1..], "{report}");
     }

@@ -8,7 +8,7 @@ mod sources;
 include!("archive/declared.rs");
 
 use compiled::{compiled, package, written_by, LANGUAGES};
-use declared::{Entry, Heads, Made, Presence, Reading, Received, Recorded, Sited, Taken, Written, Zones};
+use declared::{Entry, Heads, Line, Made, Presence, Reading, Received, Recorded, Sited, Taken, Written, Zones};
 use degvuurel::{Fault, Island, Message, Metres, Report, RowFields, Seconds, Settings, Station, Track};
 use std::collections::BTreeMap;
 use std::fmt::Write;
@@ -56,6 +56,7 @@ fn layout_in_rust() -> String {
     layout!(lines, "received", Received { answer, message });
     layout!(lines, "written", Written { answer, length });
     layout!(lines, "recorded", Recorded { fault, line, count });
+    layout!(lines, "line", Line { name, fault, numbers });
     lines
 }
 
@@ -81,6 +82,7 @@ fn rattle() -> String {
     texts_of(&[
         "../crates/rules/src/lib.rt",
         "../crates/rules_plan/src/lib.rt",
+        "../crates/export/src/layout.rt",
         "../crates/export/src/plans.rt",
         "../crates/export/src/registers.rt",
         "../crates/export/src/screens.rt",
@@ -93,16 +95,15 @@ fn rattle() -> String {
 #[test]
 fn the_structs_are_those_of_the_rattle_sources() {
     let structs = sources::structs_in_source(&rattle());
-    assert_eq!(structs.len(), 20);
+    assert_eq!(structs.len(), 21);
     assert_eq!(sources::structs_in_c(&text_of("include/degvuurel.h")), structs, "in the header");
-    let files = ["src/station.rs", "src/report.rs", "src/siting.rs", "src/sheet.rs", "src/message.rs", "src/declared.rs"];
-    assert_eq!(sources::structs_in_source(&texts_of(&files)), structs, "in Rust");
+    assert_eq!(sources::structs_in_source(&texts_of(&["src/structs.rs", "src/declared.rs"])), structs, "in Rust");
 }
 
 #[test]
 fn the_functions_are_those_of_the_rattle_sources() {
     let functions = sources::functions_in_source(&rattle());
-    assert_eq!(functions.len(), 30);
+    assert_eq!(functions.len(), 32);
     assert_eq!(sources::functions_in_c(&text_of("include/degvuurel.h")), functions, "in the header");
     // Rust leaves out what it can do without.
     for (name, types) in sources::functions_in_source(&text_of("src/declared.rs")) {
@@ -115,29 +116,39 @@ fn name_in_header(name: &str) -> &str {
     name.trim_start_matches("ISLAND_").trim_start_matches("DETECTOR_").trim_end_matches("_CONDITION")
 }
 
-/// The numbers of a planner's text that go through the door: what is wrong with it, from 0 on. The words that a line begins with
-/// stand before them, and stay within.
-fn faults() -> BTreeMap<String, String> {
+/// The numbers of a planner's text: the words that a line begins with, and then what is wrong with it, from 0 on.
+fn words_and_faults() -> (BTreeMap<String, String>, BTreeMap<String, String>) {
     let source = text_of("../crates/rules_plan/src/lib.rt");
-    let first = source.find("pub const UNDERSTOOD").expect("the faults have names");
-    sources::constants_in_source(&source[first..])
+    let (words, faults) = source.split_at(source.find("pub const UNDERSTOOD").expect("the faults have names"));
+    (sources::constants_in_source(words), sources::constants_in_source(faults))
+}
+
+/// In the header words that begin a line are told from kinds of report, which some of them name.
+fn word_in_header(name: &str) -> String {
+    if name.ends_with("_WORD") {
+        name.to_string()
+    } else {
+        format!("WORD_{name}")
+    }
 }
 
 #[test]
 fn the_numbers_are_those_of_the_rattle_sources() {
     let header = text_of("include/degvuurel.h");
     let numbers = sources::constants_in_source(&text_of("../crates/rules/src/lib.rt"));
-    // Seventeen answers, seven kinds, six aspects and three sizes; and twelve of a planner's text.
-    assert_eq!((numbers.len(), faults().len()), (33, 12));
-    for (name, number) in numbers.into_iter().chain(faults()) {
-        let name = name_in_header(&name);
+    let (words, faults) = words_and_faults();
+    // Seventeen answers, seven kinds, six aspects and three sizes; and of a planner's text sixteen words and twelve faults.
+    assert_eq!((numbers.len(), words.len(), faults.len()), (33, 16, 12));
+    let words = words.into_iter().map(|(name, number)| (word_in_header(&name), number));
+    let others = numbers.into_iter().chain(faults.clone()).map(|(name, number)| (name_in_header(&name).to_string(), number));
+    for (name, number) in others.chain(words) {
         let forms =
             [',', ' ', '\n'].map(|end| (format!("DEGVUUREL_{name} = {number}{end}"), format!("DEGVUUREL_{name} {number}{end}")));
         assert!(forms.iter().any(|(answer, size)| header.contains(answer) || header.contains(size)), "{name} is not {number}");
     }
     for fault in Fault::ALL {
-        let number = faults().into_iter().find(|(name, _)| name.replace('_', "") == format!("{fault:?}").to_uppercase());
-        assert_eq!(number.map(|(_, number)| number), Some(fault.number().to_string()), "{fault:?}");
+        let number = faults.iter().find(|(name, _)| name.replace('_', "") == format!("{fault:?}").to_uppercase());
+        assert_eq!(number.map(|(_, number)| number.as_str()), Some(fault.number().to_string().as_str()), "{fault:?}");
     }
     let recorder = text_of("../crates/recorder/src/lib.rt");
     assert!(recorder.contains(&format!("pub type RegisterBytes = [u8; {}];", degvuurel::MOST_BYTES)));
@@ -147,4 +158,19 @@ fn the_numbers_are_those_of_the_rattle_sources() {
     assert!(header.contains(&format!("DEGVUUREL_MESSAGE {}\n", degvuurel::MESSAGE)));
     assert!(header.contains(&format!("DEGVUUREL_MESSAGE_READ {}\n", degvuurel::MESSAGE_READ)));
     assert!(text_of("../crates/screen/src/reading.rt").contains(&format!("const LONGEST: usize = {};", degvuurel::MESSAGE_READ)));
+}
+
+/// The layout that the archive's symbol counts. Where this differs, something that goes through the door has changed: then the number
+/// in `degvuurel_layout_1` is one more, everywhere that it stands, and the new layout is written down here.
+#[test]
+fn the_layout_is_the_one_that_is_counted() {
+    let mut lines = layout_in_rust();
+    for (name, types) in sources::functions_in_source(&rattle()) {
+        writeln!(lines, "{name}({})", types.join(", ")).unwrap();
+    }
+    let counted = text_of("tests/layout_1.txt");
+    assert!(lines == counted, "the layout has changed; it is now:\n{lines}");
+    for file in ["include/degvuurel.h", "src/declared.rs", "build.rs", "../crates/export/src/layout.rt"] {
+        assert!(text_of(file).contains("degvuurel_layout_1"), "{file} is of another layout");
+    }
 }

@@ -8,9 +8,13 @@ mod plan;
 #[path = "plan/rows.rs"]
 mod rows;
 
-use degvuurel::{record, report_in, Fault, Register, Report, Settings};
+use degvuurel::{
+    record, Answer, Aspect, Fault, HeadNumber, IslandNumber, Message, Metres, NoKind, NoSuchNumber, NotAReport, NotSettings,
+    Register, Report, Seconds, Settings, Station, TrackNumber,
+};
 use plan::{Misread, Plan};
 use rows::SETTINGS;
+use std::fmt::Display;
 
 fn of_settings(settings: Settings) -> paper::Settings {
     let Settings { tracks, t1, t2, t3, t4, t5 } = settings;
@@ -27,8 +31,9 @@ fn recorded(text: &[u8]) -> Result<Plan, Misread> {
     let plan = record(text).map_err(|misread| Misread { fault: misread.fault.number(), line: misread.line.unwrap_or(0) })?;
     let count = plan.register().read().expect("what is recorded can be read").count;
     assert_eq!((plan.count(), plan.line_of(0), plan.line_of(count + 1)), (count, None, None));
-    let report = |row| of_report(report_in(plan.register().entry(row).expect("the row has an entry")));
-    let reports = (1..=count).map(|row| (plan.line_of(row).expect("the row has a line"), report(row))).collect();
+    let entries = plan.register().entries().expect("what is recorded can be read");
+    let reports = (1..).zip(entries).map(|(row, entry)| (plan.line_of(row).expect("the row has a line"), of_report(entry.report)));
+    let reports = reports.collect();
     Ok(Plan { settings: of_settings(plan.register().settings()), reports })
 }
 
@@ -50,7 +55,8 @@ fn a_report_is_read_as_it_is_shown() {
         {
             let report = Report { kind, a, b, spare, value };
             let plan = record(format!("{SETTINGS}{report}").as_bytes()).expect("the report is understood");
-            assert_eq!(plan.register().entry(1).map(report_in), Ok(report));
+            assert_eq!(plan.register().entry(1).map(|entry| entry.report), Ok(report));
+            assert_eq!(report.to_string().parse(), Ok(report));
         }
     }
 }
@@ -93,7 +99,70 @@ entry zones outputs answer
 4 11100 000100100 0
 5 11100 000100100 6
 ";
-    assert_eq!((plan.register().sheet().as_str(), plan.line_of(5)), (sheet, Some(12)));
+    assert_eq!((plan.register().sheet().as_deref(), plan.line_of(5)), (Ok(sheet), Some(12)));
     let bytes = plan.clone().into_bytes();
     assert_eq!((Register::new(&bytes), bytes.len()), (plan.register(), 56));
+}
+
+#[test]
+fn a_line_that_is_no_report_says_why() {
+    let table: [(&str, NotAReport, &str); 6] = [
+        ("ocupied 0 4", NotAReport::Misread(Fault::NotAName), "not a setting, and not a kind of report"),
+        ("clock 65536", NotAReport::Misread(Fault::NotSixteenBits), "not a number from 0 to 65535"),
+        ("t1 300", NotAReport::Setting, "a setting, and no report"),
+        ("# a train comes", NotAReport::Nothing, "no report"),
+        ("\n", NotAReport::Nothing, "no report"),
+        ("normalise # first\nclock 1", NotAReport::Lines, "more than one line"),
+    ];
+    for (line, why, words) in table {
+        assert_eq!((line.parse::<Report>(), why.to_string().as_str()), (Err(why), words), "{line:?}");
+        assert_eq!(Report::try_from(line), Err(why));
+    }
+    assert_eq!("clock 1 # a tick\n".parse(), Ok(Report::clock(1)));
+}
+
+#[test]
+fn settings_are_read_as_they_are_shown() {
+    let settings = Settings { tracks: 4, t1: 1, t2: 65534, t3: 3, t4: 0, t5: 65535 };
+    assert_eq!(settings.to_string(), "tracks 4\nt1 1\nt2 65534\nt3 3\nt4 0\nt5 65535");
+    assert_eq!(settings.to_string().parse(), Ok(settings));
+    assert_eq!(Settings::try_from("# any order\nT5 65535\nt4 0\nt3 3\nt2 65534\nt1 1\n\ntracks 4\n"), Ok(settings));
+    let said = |text: String| text.parse::<Settings>().expect_err("these are no settings").to_string();
+    assert_eq!(said(format!("{settings}\n\nnormalise")), "line 8: a report, and no setting");
+    assert_eq!(said(Settings { t5: 65534, ..settings }.to_string()), "line 6: with this the settings are outside their limits");
+    assert_eq!(said("tracks 4".to_owned()), "the text ends before all six settings (tracks, t1, t2, t3, t4, t5)");
+}
+
+/// Where a width is asked for, everything that is shown keeps to it.
+#[test]
+fn what_is_shown_is_padded() {
+    let settings = Settings { tracks: 1, t1: 1, t2: 1, t3: 1, t4: 0, t5: 2 };
+    let message = Message::of(7, &Station::make(settings).expect("the settings are good"));
+    let misread = record(b"x").expect_err("it is not understood");
+    let shown: [&dyn Display; 16] = [
+        &Answer::Done,
+        &Answer::AlreadySo.done().expect_err("it is not done"),
+        &Aspect::Clearing,
+        &Aspect::Clearing.outputs(),
+        &Fault::NotAName,
+        &misread,
+        &NoSuchNumber(17),
+        &Report::clock(1),
+        &Report { kind: 9, a: 0, b: 0, spare: 0, value: 0 },
+        &NoKind(Report::clock(1)),
+        &NotAReport::Setting,
+        &NotSettings::Report(8),
+        &settings,
+        &Seconds(6),
+        &Metres(6),
+        &message,
+    ];
+    for words in shown {
+        let plain = words.to_string();
+        assert_eq!(format!("{words:>120}"), format!("{plain:>120}"));
+        assert_eq!(format!("{words:.3}"), format!("{plain:.3}"));
+    }
+    for number in [format!("{:>3}", TrackNumber(1)), format!("{:>3}", IslandNumber(1)), format!("{:>3}", HeadNumber(1))] {
+        assert_eq!(number, "  1");
+    }
 }

@@ -4,7 +4,7 @@
 #[path = "registers/sheets.rs"]
 mod sheets;
 
-use degvuurel::{append, report_in, start, Refusal, Register, Report, Settings, Station};
+use degvuurel::{append, report_in, start, IslandNumber, Refusal, Register, Report, Settings, Station, TrackNumber};
 
 const WORKED: Settings = Settings { tracks: 2, t1: 300, t2: 300, t3: 300, t4: 0, t5: 600 };
 
@@ -58,8 +58,8 @@ fn answers(changes: &[Change], length: usize) -> [u8; 4] {
     let register = Register::new(&bytes);
     let [read, stepped] = [number(&register.read()), number(&register.step(0))];
     let handed = register.entry_answer(1).number();
-    assert_eq!(number(&register.entry(1)), handed);
-    [appending(bytes.clone(), 0, WORKED, Report::occupied(0, 4)), read, stepped, handed]
+    assert_eq!(number(&register.entry_bytes(1)), handed);
+    [appending(bytes.clone(), 0, WORKED, Report::occupied(TrackNumber(0), IslandNumber(4))), read, stepped, handed]
 }
 
 #[test]
@@ -142,7 +142,11 @@ fn settings_outside_their_limits() {
 #[test]
 fn header_settings_that_are_not_the_stations() {
     for change in [(5, 3), (6, 45), (7, 2), (8, 45), (9, 2), (10, 45), (11, 2), (12, 1), (13, 1), (14, 89), (15, 3)] {
-        for (k, report) in [(0, Report::occupied(0, 4)), (5, Report::occupied(0, 4)), (8190, Report::clock(0))] {
+        for (k, report) in [
+            (0, Report::occupied(TrackNumber(0), IslandNumber(4))),
+            (5, Report::occupied(TrackNumber(0), IslandNumber(4))),
+            (8190, Report::clock(0)),
+        ] {
             assert_eq!(appending(changed(&[change], 56), k, WORKED, report), 8, "{change:?}");
         }
     }
@@ -164,11 +168,19 @@ fn room_for_an_entry() {
         (65_552, 8191),
         (56, usize::MAX),
     ] {
-        assert_eq!(appending(changed(&[], length), k, WORKED, Report::occupied(0, 4)), 12, "{k} in {length} bytes");
+        assert_eq!(
+            appending(changed(&[], length), k, WORKED, Report::occupied(TrackNumber(0), IslandNumber(4))),
+            12,
+            "{k} in {length} bytes"
+        );
         assert_eq!(appending(changed(&[], length), k, WORKED, no_kind), 12, "{k} in {length} bytes");
     }
     for (length, k) in [(24, 0), (25, 0), (56, 4), (64, 5), (65_536, 8189), (65_544, 8189), (65_537, 0)] {
-        assert_eq!(appending(changed(&[], length), k, WORKED, Report::occupied(0, 4)), 0, "{k} in {length} bytes");
+        assert_eq!(
+            appending(changed(&[], length), k, WORKED, Report::occupied(TrackNumber(0), IslandNumber(4))),
+            0,
+            "{k} in {length} bytes"
+        );
     }
     for length in [0, 1, 15] {
         let mut bytes = vec![9; length];
@@ -188,7 +200,10 @@ fn bytes_that_are_written() {
     let mut bytes = vec![9; 65_544];
     assert_eq!(number(&start(&mut bytes, WORKED)), 0);
     let mut station = normalised(WORKED);
-    let entries = [(1, Report::occupied(0, 4), [1, 0, 4, 0, 0, 0, 0, 1]), (8189, Report::clock(258), [3, 0, 0, 0, 2, 1, 0, 1])];
+    let entries = [
+        (1, Report::occupied(TrackNumber(0), IslandNumber(4)), [1, 0, 4, 0, 0, 0, 0, 1]),
+        (8189, Report::clock(258), [3, 0, 0, 0, 2, 1, 0, 1]),
+    ];
     for (k, report, expected) in entries {
         assert_eq!(append(&mut bytes, k, &mut station, report).map(|answer| answer.number()), Ok(0));
         assert_eq!(bytes[16 + 8 * k..24 + 8 * k], expected);
@@ -244,7 +259,7 @@ fn entries_that_the_replay_does_not_give() {
         }
         assert_eq!(register.step(6).map_err(refused), Err((14, None)), "{changes:?}");
     }
-    assert_eq!(Register::new(&changed(&[(24, 1), (25, 9)], 56)).entry(2), Ok(&[1, 9, 4, 0, 0, 0, 0, 1][..]));
+    assert_eq!(Register::new(&changed(&[(24, 1), (25, 9)], 56)).entry_bytes(2), Ok(&[1, 9, 4, 0, 0, 0, 0, 1][..]));
 }
 
 /// 14: a row above the count; handing back row 0.
@@ -254,15 +269,18 @@ fn rows_that_are_not_there() {
         let bytes = changed(&[], length);
         let register = Register::new(&bytes);
         for row in [count + 1, count + 2, 8191, usize::MAX] {
-            assert_eq!([number(&register.step(row)), number(&register.entry(row))], [14, 14], "row {row} of {count}");
+            assert_eq!([number(&register.step(row)), number(&register.entry_bytes(row))], [14, 14], "row {row} of {count}");
         }
-        assert_eq!([number(&register.step(0)), number(&register.entry(0))], [0, 14]);
-        assert_eq!(number(&register.entry(count)), if count == 0 { 14 } else { 0 });
+        assert_eq!([number(&register.step(0)), number(&register.entry_bytes(0))], [0, 14]);
+        assert_eq!(number(&register.entry_bytes(count)), if count == 0 { 14 } else { 0 });
     }
     // What is wrong with the register comes first.
     for (changes, length, answer) in [(&[(5, 5)][..], 56, 8), (&[], 25, 11), (&[], 65_544, 12)] {
         let bytes = changed(changes, length);
         let register = Register::new(&bytes);
-        assert_eq!([number(&register.step(8192)), number(&register.entry(0)), number(&register.entry(8192))], [answer; 3]);
+        assert_eq!(
+            [number(&register.step(8192)), number(&register.entry_bytes(0)), number(&register.entry_bytes(8192))],
+            [answer; 3]
+        );
     }
 }

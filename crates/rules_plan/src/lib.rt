@@ -64,6 +64,7 @@ pub const TEXT_ENDS: u8 = 11;
 
 // What a line says: the word that it begins with, what is wrong with its words by themselves, and its
 // numbers, each in the field of a report that it fills.
+#[repr(C)]
 pub struct Line {
     pub name: u8,
     pub fault: u8,

@@ -1,7 +1,7 @@
 //! The inputs of the benches.
 
 use crate::paper;
-use degvuurel::{Recorder, Report, Settings, Station, MOST_BYTES};
+use degvuurel::{HeadNumber, IslandNumber, Recorder, Report, Settings, Station, TrackNumber};
 use std::fmt;
 
 pub const SETTINGS: Settings = Settings { tracks: 4, t1: 300, t2: 300, t3: 300, t4: 50, t5: 60000 };
@@ -40,7 +40,9 @@ pub fn both(busy: Busy) -> (Station, paper::Station) {
     };
     let mut station = Station::make(SETTINGS).expect("the settings are good");
     let mut plain = paper::make(paper_settings(SETTINGS)).1;
-    for report in [Report::normalise()].into_iter().chain(places.into_iter().map(|(track, island)| Report::occupied(track, island)))
+    for report in [Report::normalise()]
+        .into_iter()
+        .chain(places.into_iter().map(|(track, island)| Report::occupied(TrackNumber(track), IslandNumber(island))))
     {
         station.take(report).expect("the report is taken");
         assert_eq!(plain.take(paper_report(report)), 0);
@@ -60,18 +62,10 @@ pub fn paper_report(report: Report) -> paper::Report {
 
 /// The reports of one train that goes over a track from side 2 to side 1.
 fn passing(track: u8) -> [Report; 10] {
-    [
-        Report::occupied(track, 4),
-        Report::occupied(track, 3),
-        Report::free(track, 4),
-        Report::occupied(track, 2),
-        Report::free(track, 3),
-        Report::occupied(track, 1),
-        Report::free(track, 2),
-        Report::occupied(track, 0),
-        Report::free(track, 1),
-        Report::free(track, 0),
-    ]
+    let track = TrackNumber(track);
+    let occupied = |island| Report::occupied(track, IslandNumber(island));
+    let free = |island| Report::free(track, IslandNumber(island));
+    [occupied(4), occupied(3), free(4), occupied(2), free(3), occupied(1), free(2), occupied(0), free(1), free(0)]
 }
 
 /// So many reports of trains that pass on the first tracks, each half a passage behind the one before, with a clock report of 1 to
@@ -98,7 +92,13 @@ pub fn trains(tracks: u8, longest: u16, count: usize) -> Vec<Report> {
 
 /// Trains, with a head's condition, a detector that fails and is restored, and a normalise that is refused, among them.
 pub fn everything(count: usize) -> Vec<Report> {
-    let others = [Report::head(1, 8), Report::failed(3, 1), Report::head(1, 0), Report::restored(3, 1), Report::normalise()];
+    let others = [
+        Report::head(HeadNumber(1), 8),
+        Report::failed(TrackNumber(3), IslandNumber(1)),
+        Report::head(HeadNumber(1), 0),
+        Report::restored(TrackNumber(3), IslandNumber(1)),
+        Report::normalise(),
+    ];
     let mut reports = vec![];
     for (place, report) in trains(2, 0, count).into_iter().enumerate() {
         reports.push(report);
@@ -110,20 +110,16 @@ pub fn everything(count: usize) -> Vec<Report> {
 
 /// A register of these reports.
 pub fn register(settings: Settings, reports: &[Report]) -> Vec<u8> {
-    let mut bytes = vec![0; MOST_BYTES];
-    let mut recorder = Recorder::start(&mut bytes, settings).expect("the settings are good");
+    let mut recorder = Recorder::start(settings).expect("the settings are good");
     for report in reports {
-        recorder.append(*report).expect("there is room");
+        let _refused_too = recorder.append(*report).expect("there is room");
     }
-    let filled = recorder.register().bytes().len();
-    bytes.truncate(filled);
-    bytes
+    recorder.into_bytes()
 }
 
 /// The planner's text of these reports.
 pub fn text(settings: Settings, reports: &[Report]) -> String {
-    let Settings { tracks, t1, t2, t3, t4, t5 } = settings;
-    let mut text = format!("tracks {tracks}\nt1 {t1}\nt2 {t2}\nt3 {t3}\nt4 {t4}\nt5 {t5}\n");
+    let mut text = format!("{settings}\n");
     for report in reports {
         text += &format!("{report}\n");
     }

@@ -87,7 +87,32 @@ static void check_most(void) {
     misread(__LINE__, text, DEGVUUREL_TOO_MANY_REPORTS, 7 + DEGVUUREL_MOST);
 }
 
+static struct degvuurel_line line_of(const char *line) { return degvuurel_line_in((const uint8_t *)line, strlen(line)); }
+
+static void check_lines(void) {
+    const struct degvuurel_line occupied = line_of(" Occupied 1 4 # a train");
+    SAME(occupied.name, DEGVUUREL_WORD_OCCUPIED);
+    SAME(occupied.fault, DEGVUUREL_UNDERSTOOD);
+    SAME(occupied.numbers.kind, DEGVUUREL_OCCUPIED);
+    SAME(occupied.numbers.a, 1);
+    SAME(occupied.numbers.b, 4);
+    SAME(occupied.numbers.spare, 0);
+    SAME(occupied.numbers.value, 0);
+    SAME(line_of("tracks 3").name, DEGVUUREL_WORD_TRACKS);
+    SAME(line_of("tracks 3").numbers.a, 3);
+    SAME(line_of("t5 600").name, DEGVUUREL_WORD_T5);
+    SAME(line_of("t5 600").numbers.value, 600);
+    SAME(line_of("head 1 1023").numbers.value, 1023);
+    SAME(line_of("report 9 8 7 6 5").numbers.spare, 6);
+    SAME(line_of("ocupied 1 4").name, DEGVUUREL_OTHER_WORD);
+    SAME(line_of("ocupied 1 4").fault, DEGVUUREL_NOT_A_NAME);
+    SAME(line_of("clock").fault, DEGVUUREL_NUMBER_MISSING);
+    SAME(line_of("# nothing").name, DEGVUUREL_NO_WORD);
+    SAME(line_of("").fault, DEGVUUREL_UNDERSTOOD);
+}
+
 void check_plans(void) {
+    check_lines();
     check_taken();
     check_misread();
     check_most();

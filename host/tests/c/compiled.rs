@@ -13,8 +13,8 @@ pub fn package() -> &'static Path {
     Path::new(env!("CARGO_MANIFEST_DIR"))
 }
 
-/// Compiles files of this folder into a program of that name. A compiler that is missing, or a warning, fails the test.
-pub fn compiled(name: &str, compiler: &str, options: &[&str], files: &[&str]) -> PathBuf {
+/// What a compiler makes of files of this folder, and where it would put the program.
+fn outcome(name: &str, compiler: &str, options: &[&str], files: &[&str]) -> (Output, PathBuf) {
     let folder = Path::new(env!("CARGO_TARGET_TMPDIR")).join("c");
     fs::create_dir_all(&folder).expect("the folder for programs can be made");
     let program = folder.join(name);
@@ -24,8 +24,22 @@ pub fn compiled(name: &str, compiler: &str, options: &[&str], files: &[&str]) ->
     // The archive is no source in the language that was named.
     command.args(["-x", "none"]).arg(env!("DEGVUUREL_ARCHIVE")).arg("-o").arg(&program);
     let output = command.output().unwrap_or_else(|error| panic!("'{compiler}' cannot be run, and the tests need it: {error}"));
+    (output, program)
+}
+
+/// Compiles files of this folder into a program of that name. A compiler that is missing, or a warning, fails the test.
+pub fn compiled(name: &str, compiler: &str, options: &[&str], files: &[&str]) -> PathBuf {
+    let (output, program) = outcome(name, compiler, options, files);
     assert!(output.status.success(), "{compiler} refuses {files:?}:\n{}", String::from_utf8_lossy(&output.stderr));
     program
+}
+
+/// What a compiler says of files that it must refuse.
+#[allow(dead_code)] // not every test has such files
+pub fn refused(compiler: &str, options: &[&str], files: &[&str]) -> String {
+    let (output, _) = outcome("refused", compiler, options, files);
+    assert!(!output.status.success(), "{compiler} takes {files:?} with {options:?}");
+    String::from_utf8_lossy(&output.stderr).into_owned()
 }
 
 /// What a program writes, which ends well and has nothing to say on standard error.

@@ -98,6 +98,10 @@ static void of_a_plan(void) {
     FIELD(recorded, fault);
     FIELD(recorded, line);
     FIELD(recorded, count);
+    WHOLE(line);
+    FIELD(line, name);
+    FIELD(line, fault);
+    FIELD(line, numbers);
 }
 
 int main(void) {

@@ -60,7 +60,7 @@ pub fn functions_in_c(header: &str) -> Declared {
     let declared = |statement: &str| {
         let (start, parameters) = statement.split_once('(')?;
         let name = start.split_whitespace().last().filter(|name| name.starts_with("degvuurel_"))?;
-        let taken = parameters.trim_end_matches(')').split(',').map(type_in_c);
+        let taken = parameters.trim_end_matches(')').split(',').map(type_in_c).filter(|kind| kind != "void");
         Some((name.to_string(), taken.chain([type_in_c(start)]).collect()))
     };
     words.split(';').filter_map(declared).collect()

@@ -1,26 +1,19 @@
 //! What a case has typed of a register, from what the package gives.
 
-use degvuurel::{report_in, Answer, Plan, Refusal, Register, Station};
+use degvuurel::{Answer, Plan, Refusal, Register, Station};
 
 /// The refused reports with their lines, and how many there are.
 pub fn told(plan: &Plan) -> String {
     let (mut told, mut refused) = (String::new(), 0);
-    for row in 1..=plan.count() {
-        let entry = plan.register().entry(row).expect("the row has an entry");
-        if entry[6] != 0 {
+    for (row, entry) in (1..).zip(plan.register().entries().expect("what is recorded can be read")) {
+        if entry.answer != Answer::Done {
             let line = plan.line_of(row).expect("the row has a line");
-            told += &format!("line {line}: refused {}; entered as row {row}\n", answer(entry, ": "));
+            told += &format!("line {line}: refused {}: {}; entered as row {row}\n", entry.answer.number(), entry.answer);
             refused += 1;
         }
     }
     let reports = if plan.count() == 1 { "report" } else { "reports" };
     told + &format!("{} {reports} entered, {refused} of them refused\n", plan.count())
-}
-
-/// An entry's answer, as a number and in words.
-fn answer(entry: &[u8], between: &str) -> String {
-    let words = Answer::of(entry[6]).map_or(String::new(), |answer| answer.to_string());
-    format!("{}{between}{words}", entry[6])
 }
 
 /// A row as it is stepped to, or that it is refused.
@@ -35,7 +28,7 @@ fn shown(register: Register, row: usize) -> Result<String, Refusal> {
         0 => "none, the fresh station".to_owned(),
         _ => {
             let entry = register.entry(row)?;
-            format!("{}\nanswer    {}", report_in(entry), answer(entry, " "))
+            format!("{}\nanswer    {} {}", entry.report, entry.answer.number(), entry.answer)
         }
     };
     let aspect = station.aspect();

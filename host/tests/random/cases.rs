@@ -6,7 +6,7 @@ use crate::settings::Timers;
 use crate::trains::Yard;
 use crate::values;
 use crate::words;
-use degvuurel::{Report, Settings};
+use degvuurel::{HeadNumber, Report, Settings};
 use std::fmt;
 
 /// A register to fill.
@@ -106,7 +106,7 @@ impl Filling {
 
     fn of_trains(&mut self, chance: &mut Chance) -> Report {
         let report = match chance.below(12) {
-            0 => Some(Report::head(chance.below(2) as u8, condition(chance))),
+            0 => Some(Report::head(HeadNumber(chance.below(2) as u8), condition(chance))),
             1..=8 => self.yard.moves(chance),
             _ => None,
         };

@@ -8,7 +8,7 @@ use crate::shipped::{Fields, APPEND, START};
 use crate::tally::{Asked, Tally};
 use crate::values::{self, answer, same, same_bytes, seen};
 use crate::words::Seen;
-use degvuurel::{append, start, Message, Recorder, Report, Settings, Station, ENTRY, HEADER};
+use degvuurel::{append, start, Message, Recorder, Refusal, Report, Settings, Station, ENTRY, HEADER};
 
 /// What both sides fill: lent bytes, and the station after the last entry.
 #[derive(Clone)]
@@ -104,26 +104,31 @@ pub fn shown_by_both(station: &Station, tally: &mut Tally) -> Result<(), String>
     same(format_args!("message"), &screens::message(Message::of(number, station)), &screen::Message::of(number, &of_paper))
 }
 
-/// A recorder fills the same register, stops half way and goes on.
+/// A recorder fills the same register, stops half way and goes on; and it goes back to where it stopped.
 pub fn record(case: &Case, filled: &Filled) -> Result<(), String> {
+    let told = |refusal: Refusal| refusal.to_string();
     let end = HEADER + ENTRY * case.reports.len();
-    let mut bytes = vec![case.filling; filled.bytes.len()];
-    let (first, second) = case.reports.split_at(case.reports.len() / 2);
-    let mut recorder = Recorder::start(&mut bytes, case.settings).map_err(|refusal| refusal.to_string())?;
-    for &report in first {
-        recorder.append(report).map_err(|refusal| refusal.to_string())?;
-    }
-    let half = recorder.register().bytes().len();
-    let mut recorder = Recorder::resume(&mut bytes, half).map_err(|refusal| refusal.to_string())?;
-    for &report in second {
-        recorder.append(report).map_err(|refusal| refusal.to_string())?;
-    }
-    // Where there is room for no other entry, the recorder stays as it is.
-    if case.beyond < ENTRY {
-        same(format_args!("recorder, answer without room"), &answer(&recorder.append(Report::normalise())), &12)?;
+    let half = case.reports.len() / 2;
+    let mut recorder = Recorder::start(case.settings).map_err(told)?;
+    for (k, &report) in case.reports.iter().enumerate() {
+        if k == half {
+            recorder = Recorder::resume(recorder.into_bytes()).map_err(told)?;
+        }
+        let answer = recorder.append(report).map_err(told)?;
+        same(format_args!("recorder, answer {k}"), &answer.number(), &filled.bytes[HEADER + ENTRY * k + 6])?;
     }
     same(format_args!("recorder, count"), &recorder.count(), &case.reports.len())?;
     same(format_args!("recorder, station"), &seen(recorder.station()), &seen(&filled.station))?;
     same_bytes(format_args!("recorder, register"), recorder.register().bytes(), &filled.bytes[..end])?;
-    same_bytes(format_args!("recorder, lent bytes"), &bytes, &filled.bytes)
+    let rows: Vec<u8> = recorder.entries().flat_map(|entry| [entry.answer.number(), entry.aspect.number()]).collect();
+    let papers = filled.bytes[HEADER..end].chunks(ENTRY).flat_map(|entry| [entry[6], entry[7]]);
+    same(format_args!("recorder, entries"), &rows, &papers.collect())?;
+    // There is no such row, and it stays as it is.
+    let whole = recorder.clone();
+    same(format_args!("recorder, answer to a row that is not there"), &answer(&recorder.undo(case.reports.len() + 1)), &14)?;
+    same(format_args!("recorder, after a refused undo"), &recorder, &whole)?;
+    recorder.undo(half).map_err(told)?;
+    let papers = paper::step(&filled.bytes[..end], half);
+    same(format_args!("recorder, station after undo"), &seen(recorder.station()), &Seen(papers.station))?;
+    same_bytes(format_args!("recorder, after undo"), &recorder.into_bytes(), &filled.bytes[..HEADER + ENTRY * half])
 }

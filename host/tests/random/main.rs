@@ -42,6 +42,9 @@ use tally::{Tally, OF_REGISTERS, OF_SCREENS, OF_STATIONS};
 const SEED: u64 = 202_510;
 const REGISTERS: u64 = 200_000;
 
+/// What is not optimised takes ten times as long, so that without `--release` as few are tried as still see every answer.
+const TRIED: u64 = if cfg!(debug_assertions) { FEWEST } else { REGISTERS };
+
 /// Where fewer registers are asked for, damaged ones and stations are still as many as for these: some answers come from them
 /// alone, and would else be missed by chance.
 const FEWEST: u64 = 5_000;
@@ -87,7 +90,7 @@ fn from_environment(name: &str, otherwise: u64) -> u64 {
 
 fn main() -> ExitCode {
     let seed = from_environment("DEGVUUREL_SEED", SEED);
-    let number = from_environment("DEGVUUREL_REGISTERS", REGISTERS);
+    let number = from_environment("DEGVUUREL_REGISTERS", TRIED);
     let others = number.max(FEWEST);
     let begun = Instant::now();
     let of_registers = [

@@ -7,7 +7,7 @@ use crate::runs::Bench;
 use crate::shipped::{self, Fields};
 use crate::tally::Asked;
 use crate::values::{self, answer, number_at, report_of, same, same_bytes, Outcome};
-use degvuurel::{print, report_in, Browser, Refusal, Register, Settings, Station, ENTRY, HEADER};
+use degvuurel::{print, report_in, Browser, Entry, Refusal, Register, Report, Settings, Station, ENTRY, HEADER};
 
 /// Registers of more entries are stepped to a sample of their rows: stepping to every row takes the square of their number.
 const STEPPED_WHOLE: usize = 700;
@@ -72,7 +72,7 @@ fn step(register: Register, row: usize, bench: &mut Bench) -> Result<(), String>
 
 /// Both hand back the same part of the lent register, not merely equal bytes.
 fn hand_back(register: Register, row: usize, bench: &mut Bench) -> Result<(), String> {
-    let handed = register.entry(row);
+    let handed = register.entry_bytes(row);
     let (number, part) = paper::entry(register.bytes(), row);
     bench.tally.count(Asked::Entry, number);
     same(format_args!("handing back row {row}, answer"), &answer(&handed), &number)?;
@@ -83,11 +83,32 @@ fn hand_back(register: Register, row: usize, bench: &mut Bench) -> Result<(), St
         let cut = &bytes[..row % ENTRY];
         same(format_args!("the report of row {row}, cut"), &report_in(cut), &report_of(cut))?;
     }
+    same(format_args!("row {row} by name"), &by_name(register.entry(row)), &replayed(register.bytes(), row))?;
     bench.ship(format_args!("handing back row {row}"), || {
         let at = if number == 0 { HEADER + ENTRY * (row - 1) } else { 0 };
         let expected = Fields::default().byte(number).byte(number).number(at).number(part.len());
         (Fields::call(shipped::ENTRY, row, register.bytes()), expected)
     })
+}
+
+/// A refusal: its number, and the entry that it names or 0.
+type Refused = (u8, usize);
+
+/// A row's entry or its refusal, in numbers.
+fn by_name(entry: Result<Entry, Refusal>) -> Result<(Report, u8, u8), Refused> {
+    entry
+        .map(|entry| (entry.report, entry.answer.number(), entry.aspect.number()))
+        .map_err(|refusal| (refusal.number(), refusal.entry().unwrap_or(0)))
+}
+
+/// A row's entry as its eight bytes have it, or its refusal: what the paper hands back where it also steps there.
+fn replayed(bytes: &[u8], row: usize) -> Result<(Report, u8, u8), Refused> {
+    let (number, part) = paper::entry(bytes, row);
+    let stepped = paper::step(bytes, row);
+    match if number == 0 { (stepped.answer, stepped.entry) } else { (number, 0) } {
+        (0, _) => Ok((report_of(part), part[6], part[7])),
+        refused => Err(refused),
+    }
 }
 
 /// A browser and where it should stand.
@@ -143,11 +164,7 @@ impl Walk<'_> {
         let (bytes, place) = (self.browser.register().bytes(), self.place);
         let expected = Outcome::of_paper(paper::step(bytes, place));
         same(format_args!("looking at row {place}"), &Outcome::of_step(self.browser.station(), place), &expected)?;
-        let (number, part) = paper::entry(bytes, place);
-        let handed = self.browser.entry();
-        same(format_args!("the entry that a browser stands on, answer"), &answer(&handed), &number)?;
-        let lies = handed.map_or(part.as_ptr_range(), |bytes| bytes.as_ptr_range());
-        same(format_args!("the entry that a browser stands on"), &lies, &part.as_ptr_range())
+        same(format_args!("the entry that a browser stands on"), &by_name(self.browser.entry()), &replayed(bytes, place))
     }
 }
 
@@ -182,8 +199,12 @@ fn print_both(bytes: &[u8], read: &Outcome, whole: bool, bench: &mut Bench) -> R
     let near = (expected.len() + LOOKED_AT_BEYOND).min(bench.text.len());
     let end = if whole { bench.text.len() } else { near };
     bench.text[..end].fill(UNTOUCHED);
-    let printed = print(bytes, &mut bench.text).len();
+    let printed = print(bytes, &mut bench.text).map(str::len).map_err(|refusal| (refusal.number(), refusal.entry().unwrap_or(0)));
     let number = number_printed(&expected);
+    let entry = if number == 13 { read.entry } else { 0 };
+    let judged = if number == 0 { Ok(expected.len()) } else { Err((number, entry)) };
+    same(format_args!("printing, its length or its refusal"), &printed, &judged)?;
+    let printed = expected.len();
     bench.tally.count(Asked::Print, number);
     same_bytes(format_args!("printing"), &bench.text[..printed], &expected)?;
     let beyond = bench.text[printed..end].iter().filter(|&&byte| byte != UNTOUCHED).count();
@@ -197,9 +218,13 @@ fn print_both(bytes: &[u8], read: &Outcome, whole: bool, bench: &mut Bench) -> R
     Ok(())
 }
 
-/// A sheet in a string of its own is the same.
+/// A sheet in a string of its own is the same, or refused by the number that is printed.
 fn sheet(register: Register) -> Result<(), String> {
-    same_bytes(format_args!("a sheet in a string"), register.sheet().as_bytes(), &paper::print(register.bytes()))
+    let expected = paper::print(register.bytes());
+    match register.sheet() {
+        Ok(sheet) => same_bytes(format_args!("a sheet in a string"), sheet.as_bytes(), &expected),
+        Err(refusal) => same(format_args!("a sheet in a string, answer"), &refusal.number(), &number_printed(&expected)),
+    }
 }
 
 /// The number of `refused 9` or `refused 13 at 2`, or 0 of a sheet.

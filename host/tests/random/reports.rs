@@ -1,7 +1,7 @@
 //! Reports by chance, without regard to trains.
 
 use crate::chance::Chance;
-use degvuurel::{Report, Settings};
+use degvuurel::{HeadNumber, IslandNumber, Report, Settings, TrackNumber};
 
 /// The clock goes on, mostly for about as long as something takes, so far as the ticks left allow.
 pub fn clock(chance: &mut Chance, settings: Settings, ticks_left: &mut u32) -> Report {
@@ -35,12 +35,12 @@ pub fn well_formed(chance: &mut Chance, settings: Settings, ticks_left: &mut u32
     let track = chance.below(usize::from(settings.tracks.clamp(1, 4))) as u8;
     let island = chance.below(5) as u8;
     match chance.below(20) {
-        0..=6 => Report::occupied(track, island),
-        7..=10 => Report::free(track, island),
+        0..=6 => Report::occupied(TrackNumber(track), IslandNumber(island)),
+        7..=10 => Report::free(TrackNumber(track), IslandNumber(island)),
         11..=14 => clock(chance, settings, ticks_left),
-        15 => Report::failed(track, island),
-        16 => Report::restored(track, island),
-        17 => Report::head(chance.below(2) as u8, condition(chance)),
+        15 => Report::failed(TrackNumber(track), IslandNumber(island)),
+        16 => Report::restored(TrackNumber(track), IslandNumber(island)),
+        17 => Report::head(HeadNumber(chance.below(2) as u8), condition(chance)),
         _ => Report::normalise(),
     }
 }

@@ -4,7 +4,7 @@ use crate::filling::shown_by_both;
 use crate::paper;
 use crate::tally::{Asked, Tally};
 use crate::values::{answer, same};
-use degvuurel::{advance, warning, Aspect, Metres, Outputs, Report, Seconds, Settings, Station};
+use degvuurel::{advance, warning, Aspect, IslandNumber, Metres, Outputs, Report, Seconds, Settings, Station, TrackNumber};
 
 const SETTINGS: Settings = Settings { tracks: 2, t1: 3, t2: 3, t3: 3, t4: 0, t5: 9 };
 
@@ -68,10 +68,13 @@ fn leading_to_aspects() -> [(Aspect, Vec<Report>); 6] {
     [
         (Aspect::OutOfService, vec![]),
         (Aspect::Permitted, vec![normalise]),
-        (Aspect::Clearing, vec![normalise, Report::occupied(1, 0)]),
-        (Aspect::Forbidden, vec![normalise, Report::occupied(1, 1)]),
-        (Aspect::GreatestRisk, vec![normalise, Report::occupied(0, 4), Report::occupied(1, 1)]),
-        (Aspect::Surroundings, vec![normalise, Report::occupied(1, 2), Report::clock(3)]),
+        (Aspect::Clearing, vec![normalise, Report::occupied(TrackNumber(1), IslandNumber(0))]),
+        (Aspect::Forbidden, vec![normalise, Report::occupied(TrackNumber(1), IslandNumber(1))]),
+        (
+            Aspect::GreatestRisk,
+            vec![normalise, Report::occupied(TrackNumber(0), IslandNumber(4)), Report::occupied(TrackNumber(1), IslandNumber(1))],
+        ),
+        (Aspect::Surroundings, vec![normalise, Report::occupied(TrackNumber(1), IslandNumber(2)), Report::clock(3)]),
     ]
 }
 

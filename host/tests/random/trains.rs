@@ -1,7 +1,7 @@
 //! Trains that make sense: they come over one side, cross, and leave over the other; they stop, and some turn back.
 
 use crate::chance::Chance;
-use degvuurel::Report;
+use degvuurel::{IslandNumber, Report, TrackNumber};
 
 /// A train has entered the first `front` islands of its way and left the first `rear` of them.
 #[derive(Clone, Copy)]
@@ -63,7 +63,7 @@ impl Yard {
         train.rear = chance.below(3);
         train.front = train.rear + 1;
         self.trains.push(train);
-        Report::occupied(train.track, train.island(train.rear))
+        Report::occupied(TrackNumber(train.track), IslandNumber(train.island(train.rear)))
     }
 
     /// What is known of the islands after a report is handed in.
@@ -97,14 +97,14 @@ impl Yard {
         let enters = train.front < WAY && (train.rear == train.front || !longest && chance.one_in(2));
         if !enters {
             train.rear += 1;
-            return Some(Report::free(train.track, train.island(train.rear - 1)));
+            return Some(Report::free(TrackNumber(train.track), IslandNumber(train.island(train.rear - 1))));
         }
         let island = train.island(train.front);
         if occupied[usize::from(train.track)][usize::from(island)] && !chance.one_in(6) {
             return None;
         }
         train.front += 1;
-        Some(Report::occupied(train.track, island))
+        Some(Report::occupied(TrackNumber(train.track), IslandNumber(island)))
     }
 
     /// The detector of an island fails, or one that failed is restored.
@@ -112,9 +112,9 @@ impl Yard {
         let track = chance.pick(&self.tracks);
         let island = chance.below(WAY) as u8;
         if self.failed[usize::from(track)][usize::from(island)] {
-            Report::restored(track, island)
+            Report::restored(TrackNumber(track), IslandNumber(island))
         } else {
-            Report::failed(track, island)
+            Report::failed(TrackNumber(track), IslandNumber(island))
         }
     }
 
@@ -126,10 +126,10 @@ impl Yard {
             for island in 0..WAY {
                 let named = (track as u8, island as u8);
                 if self.occupied[track][island] {
-                    reports.push(Report::free(named.0, named.1));
+                    reports.push(Report::free(TrackNumber(named.0), IslandNumber(named.1)));
                 }
                 if self.failed[track][island] {
-                    reports.push(Report::restored(named.0, named.1));
+                    reports.push(Report::restored(TrackNumber(named.0), IslandNumber(named.1)));
                 }
             }
         }

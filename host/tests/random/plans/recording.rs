@@ -5,8 +5,8 @@ use crate::declared::{degvuurel_record, RegisterBytes, RowLines};
 use crate::plan::{self, Misread};
 use crate::runs::Bench;
 use crate::shipped::{Fields, RECORD};
-use crate::values::{same, same_bytes};
-use degvuurel::{record, MOST, MOST_BYTES};
+use crate::values::{self, same, same_bytes};
+use degvuurel::{record, Fault, NotAReport, Report, MOST, MOST_BYTES};
 
 /// What is expected of a text: its fault and its line, or the register's bytes, and the lines of its rows.
 struct Expected {
@@ -46,6 +46,7 @@ pub fn compare(text: &[u8], filling: u8, bench: &mut Bench) -> Result<(), String
     same(format_args!("the first line that differs"), &first_other(own, &expected.lines), &None)?;
     same(format_args!("lines touched beyond them"), &others(beyond, before), &0)?;
     compare_wrapped(text, &expected)?;
+    compare_lines(text)?;
     bench.ship(format_args!("recording"), || (Fields::call(RECORD, 0, text), expected_of_shipped(&expected)))
 }
 
@@ -75,6 +76,28 @@ fn compare_wrapped(text: &[u8], expected: &Expected) -> Result<(), String> {
             same(format_args!("wrapped, fault and line"), &wrapped, &expected.misread)
         }
     }
+}
+
+/// Behind these any report can stand, and a setting is too late.
+const BEFORE_A_REPORT: &[u8] = b"tracks 1\nt1 1\nt2 1\nt3 1\nt4 0\nt5 2\nnormalise\n";
+
+/// So many lines of a text are read by themselves.
+const READ_ALONE: usize = 8;
+
+/// Lines by themselves, as reports, where they are strings at all: read by the package, and by the judge behind a report.
+fn compare_lines(text: &[u8]) -> Result<(), String> {
+    for line in text.split(|&byte| byte == b'\n').take(READ_ALONE) {
+        let Ok(words) = std::str::from_utf8(line) else { continue };
+        let judged = match plan::read(&[BEFORE_A_REPORT, line].concat()) {
+            Ok(plan) => plan.reports.get(1).map(|&(_, report)| report).ok_or(NotAReport::Nothing),
+            Err(misread) => match Fault::of(misread.fault) {
+                Some(Fault::LateSetting) => Err(NotAReport::Setting),
+                fault => Err(NotAReport::Misread(fault.ok_or("the judge finds a fault")?)),
+            },
+        };
+        same(format_args!("the line {words:?} alone"), &words.parse::<Report>().map(values::report), &judged)?;
+    }
+    Ok(())
 }
 
 /// The shipped code tells of what lies behind how much was touched.

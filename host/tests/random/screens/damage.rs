@@ -46,6 +46,7 @@ fn part_of(length: usize, chance: &mut Chance) -> Range<usize> {
 }
 
 /// At most two bytes, since of more nothing would be left to see.
+#[allow(clippy::ptr_arg)] // one of the damages, of which the others change the length
 fn turn(text: &mut Vec<u8>, part: Range<usize>, chance: &mut Chance) {
     for byte in text[part].iter_mut().take(2) {
         match chance.below(3) {

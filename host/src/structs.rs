@@ -1,0 +1,175 @@
+//! What goes through the archive's door by value, field by field as in the Rattle source, and the sizes of what is lent. What can be
+//! done with each stands in a file of its own.
+
+/// The bytes of the header.
+pub const HEADER: usize = 16;
+
+/// The bytes of an entry.
+pub const ENTRY: usize = 8;
+
+/// The most entries that a register has.
+pub const MOST: usize = 8190;
+
+/// The bytes of a register of [`MOST`] entries.
+pub const MOST_BYTES: usize = HEADER + ENTRY * MOST;
+
+/// The bytes of the longest sheet.
+pub const SHEET: usize = 188_397;
+
+/// Room for any sheet.
+pub type SheetText = [u8; SHEET];
+
+/// The bytes of the longest message that is written.
+pub const MESSAGE: usize = 87;
+
+/// The bytes of the longest text that is read.
+pub const MESSAGE_READ: usize = 4096;
+
+/// The number of tracks, 1 to 4, and the timers in ticks. T4 may be 0, the others not, and T5 is greater than T2.
+#[derive(Clone, Copy, Debug, PartialEq, Eq, Hash)]
+#[repr(C)]
+pub struct Settings {
+    /// The number of tracks.
+    pub tracks: u8,
+    /// Of the advance islands.
+    pub t1: u16,
+    /// Of the warning islands.
+    pub t2: u16,
+    /// Of the crossing.
+    pub t3: u16,
+    /// The hold after the greatest risk.
+    pub t4: u16,
+    /// From which age on an occupied warning island latches the fault.
+    pub t5: u16,
+}
+
+/// An island is free, or occupied with a mark and an age in ticks. Its detector may have failed.
+#[derive(Clone, Copy, Debug, PartialEq, Eq, Hash, Default)]
+#[repr(C)]
+pub struct Island {
+    /// Whether it is occupied.
+    pub occupied: bool,
+    /// The mark: leaving, or else approaching.
+    pub leaving: bool,
+    /// Whether its detector has failed.
+    pub failed: bool,
+    /// Ticks since it became occupied.
+    pub age: u16,
+}
+
+/// Advance side 1, warning side 1, crossing, warning side 2, advance side 2.
+#[derive(Clone, Copy, Debug, PartialEq, Eq, Hash, Default)]
+#[repr(C)]
+pub struct Track {
+    /// The five islands.
+    pub islands: [Island; 5],
+}
+
+/// A station: a plain value, any of which can be handed to any function. One whose settings are outside their limits refuses every
+/// report by 8 and shows what cannot be trusted as taken.
+///
+/// ```
+/// use degvuurel::{Answer, Aspect, IslandNumber, Report, Settings, Station, TrackNumber};
+///
+/// # fn main() -> Result<(), degvuurel::Refusal> {
+/// let mut station = Station::make(Settings { tracks: 1, t1: 300, t2: 300, t3: 300, t4: 50, t5: 600 })?;
+/// assert_eq!(station.aspect(), Aspect::OutOfService); // a fresh station's fault is latched
+/// station.take(Report::normalise())?;
+/// station.take(Report::occupied(TrackNumber(0), IslandNumber::CROSSING))?;
+/// assert_eq!(station.aspect(), Aspect::Forbidden);
+/// assert_eq!(station.take(Report::normalise()).unwrap_err().answer(), Answer::NotClear);
+/// assert_eq!(station.zones(), [1, 1, 0, 1, 1]);
+/// # Ok(())
+/// # }
+/// ```
+#[derive(Clone, Copy, Debug, PartialEq, Eq, Hash)]
+#[repr(C)]
+pub struct Station {
+    /// The settings that it was made of.
+    pub settings: Settings,
+    /// Tracks beyond the settings' number are neither read nor changed.
+    pub tracks: [Track; 4],
+    /// What is left of T4, in ticks.
+    pub hold: u16,
+    /// Whether the fault is latched.
+    pub fault: bool,
+    /// What has failed of each head.
+    pub conditions: [u16; 2],
+}
+
+/// A report, six bytes of the register: document 01, "Reports". The functions make each kind; any other fields are answered by a
+/// number when the report is taken.
+#[derive(Clone, Copy, Debug, PartialEq, Eq, Hash)]
+#[repr(C)]
+pub struct Report {
+    /// 1 to 7.
+    pub kind: u8,
+    /// The track, or the head.
+    pub a: u8,
+    /// The island.
+    pub b: u8,
+    /// 0.
+    pub spare: u8,
+    /// Ticks, or a head's condition.
+    pub value: u16,
+}
+
+/// A time. No distance is ever taken for one.
+#[derive(Clone, Copy, Debug, PartialEq, Eq, Hash, PartialOrd, Ord)]
+#[repr(C)]
+pub struct Seconds(pub u16);
+
+/// A distance.
+#[derive(Clone, Copy, Debug, PartialEq, Eq, Hash, PartialOrd, Ord)]
+#[repr(C)]
+pub struct Metres(pub u16);
+
+/// What a row of a sheet shows.
+#[derive(Clone, Copy, Debug, PartialEq, Eq, Hash)]
+#[repr(C)]
+pub struct RowFields {
+    /// The entry's number, from 1.
+    pub entry: u64,
+    /// The zone digits in island order.
+    pub zones: [u8; 5],
+    /// The nine output bits, VF first.
+    pub outputs: u16,
+    /// The answer.
+    pub answer: u8,
+}
+
+/// What the information desk is told of a station: one JSON object with the members `station`, `aspect` and `tracks`.
+///
+/// ```
+/// use degvuurel::{Aspect, IslandNumber, Message, Report, Settings, Station, TrackNumber};
+///
+/// # fn main() -> Result<(), degvuurel::Refusal> {
+/// let mut station = Station::make(Settings { tracks: 2, t1: 300, t2: 300, t3: 300, t4: 0, t5: 600 })?;
+/// station.take(Report::normalise())?;
+/// station.take(Report::occupied(TrackNumber(0), IslandNumber::WARNING_2))?;
+/// let message = Message::of(7, &station);
+/// assert_eq!(message.text()?, r#"{"station":7,"aspect":2,"tracks":[[1,1,1,0,1],[1,1,1,1,1]]}"#);
+///
+/// // The desk adds members and blanks of its own.
+/// let sent_back = br#" { "text": "Stand clear", "station": 7, "aspect": 2, "tracks": [[1,1,1,0,1], [1,1,1,1,1]] } "#;
+/// let read = Message::read(sent_back)?;
+/// assert_eq!(read, message);
+/// assert_eq!(read.aspect(), Some(Aspect::Forbidden));
+///
+/// assert_eq!(Message::read(b"[]").unwrap_err().number(), 16);
+/// assert_eq!(Message::read(b"[").unwrap_err().number(), 15);
+/// # Ok(())
+/// # }
+/// ```
+#[derive(Clone, Copy, Debug, PartialEq, Eq, Hash)]
+#[repr(C)]
+pub struct Message {
+    /// The station's number.
+    pub station: u16,
+    /// The aspect's number, 0 to 5.
+    pub aspect: u8,
+    /// The number of tracks, 1 to 4.
+    pub tracks: u8,
+    /// Five digits for each track, in island order: 0 occupied, 1 free. Those of tracks that are not there are 0.
+    pub digits: [u8; 20],
+}

@@ -1,0 +1,18 @@
+/* Prints the words of each number that has some, and of one more. */
+#include "degvuurel_words.h"
+
+#include <stdio.h>
+
+int main(void) {
+    uint8_t number;
+    for (number = 0; number <= 17; number++) {
+        printf("answer %d: %s\n", number, degvuurel_answer_words(number));
+    }
+    for (number = 0; number <= 6; number++) {
+        printf("aspect %d: %s\n", number, degvuurel_aspect_words(number));
+    }
+    for (number = 0; number <= 12; number++) {
+        printf("fault %d: %s\n", number, degvuurel_fault_words(number));
+    }
+    return 0;
+}
