@@ -68,11 +68,13 @@ module _ (s : Station) (r : Timetable) where
   older-then : (n : ℕ) → allOlder (stationAt n) .tracks ≡ tracksAt (suc n)
   unfolding allOlder
   older-then n =
-      ap₂ (λ (a b : List Track). map olderTrack a ++ b) (live-then n) (changed-drop (laterTrack n) (c .tracks) (s .tracks))
+      ap₂ (λ (a b : List Track). map olderTrack a ++ b) (live-then n)
+      (changed-drop (laterTrack n) (c .tracks) (s .tracks))
       ∙ ap (λ (a : List Track). a ++ beyond s) (tracks-older n (live s))
 
   now-then : s .tracks ≡ tracksAt 0
-  now-then = sym (ap (λ (l : List Track). l ++ beyond s) (tracks-now (live s)) ∙ take-append-drop (c .tracks) (s .tracks))
+  now-then =
+      sym (ap (λ (l : List Track). l ++ beyond s) (tracks-now (live s)) ∙ take-append-drop (c .tracks) (s .tracks))
 
   module _ (e : Timed c (live s) r) where
     risk-then : (n : ℕ) → n < 65536 → greatestRisk (stationAt n) ≡ riskAt r n
@@ -80,7 +82,8 @@ module _ (s : Station) (r : Timetable) where
     risk-then n h =
         ap₂ _&&_
         (ap (any (someFresh c)) (live-then n) ∙ any-map (laterTrack n) (someFresh c) (live s) ∙ e .fresh n)
-        (ap (leb 2) (ap (count (present c)) (live-then n) ∙ count-map (laterTrack n) (present c) (live s)) ∙ e .second n h)
+        (ap (leb 2) (ap (count (present c)) (live-then n) ∙ count-map (laterTrack n) (present c) (live s))
+        ∙ e .second n h)
 
     late-then : (n : ℕ) → n < 65536 → any (late c) (live (stationAt n)) ≡ leb (r .late) n
     late-then n h = ap (any (late c)) (live-then n) ∙ any-map (laterTrack n) (late c) (live s) ∙ e .late n h
@@ -92,8 +95,10 @@ module _ (s : Station) (r : Timetable) where
         risk-next : greatestRisk (allOlder (stationAt n)) ≡ riskAt r (suc n)
         risk-next = ap (λ (l : List Track). greatestRisk (withTracks s l)) (older-then n) ∙ risk-then (suc n) h
 
-        hold-next : cond (greatestRisk (allOlder (stationAt n))) (c .t4) (lowered (greatestRisk (stationAt n)) (holdAt n)) ≡ holdAt (suc n)
-        hold-next = ap₂ (λ (after before : Bool). cond after (c .t4) (lowered before (holdAt n))) risk-next (risk-then n (omega arith))
+        hold-next : cond (greatestRisk (allOlder (stationAt n))) (c .t4) (lowered (greatestRisk (stationAt n))
+            (holdAt n)) ≡ holdAt (suc n)
+        hold-next = ap₂ (λ (after before : Bool). cond after (c .t4) (lowered before (holdAt n))) risk-next
+            (risk-then n (omega arith))
 
         late-next : any (late c) (live (allOlder (stationAt n))) ≡ leb (r .late) (suc n)
         late-next = ap (λ (l : List Track). any (late c) (live (withTracks s l))) (older-then n) ∙ late-then (suc n) h
@@ -101,7 +106,8 @@ module _ (s : Station) (r : Timetable) where
         fault-next : faultAt n || any (late c) (live (allOlder (stationAt n))) ≡ faultAt (suc n)
         fault-next =
             ap (λ (b : Bool). faultAt n || b) late-next
-            ∙ latch (s .fault) (ltb 0 n) (leb (r .late) n) (leb (r .late) (suc n)) (λ k. le-leb (r .late) (suc n) (omega (arith, leb-true (r .late) n k)))
+            ∙ latch (s .fault) (ltb 0 n) (leb (r .late) n) (leb (r .late) (suc n)) (λ k.
+            le-leb (r .late) (suc n) (omega (arith, leb-true (r .late) n k)))
             ∙ ap (λ (b : Bool). s .fault || (b && leb (r .late) (suc n))) (sym (lt-ltb 0 (suc n) (omega arith)))
 
     pub ticks-are : (n : ℕ) → n < 65536 → ticks n s ≡ stationAt n
@@ -112,4 +118,5 @@ module _ (s : Station) (r : Timetable) where
     -- what the code puts together
     pub ticks-made : (n hold : ℕ) (l : List Track) → n < 65536 → hold ≡ holdAt n → l ≡ tracksAt n
         → withFault (withHold (withTracks s l) hold) (faultAt n) ≡ ticks n s
-    ticks-made n hold l k eh el = (λ i. withFault (withHold (withTracks s (el i)) (eh i)) (faultAt n)) ∙ sym (ticks-are n k)
+    ticks-made n hold l k eh el = (λ i. withFault (withHold (withTracks s (el i)) (eh i)) (faultAt n))
+        ∙ sym (ticks-are n k)

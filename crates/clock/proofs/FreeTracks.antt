@@ -26,11 +26,13 @@ none : (p : Zone → Island → Bool) → ((z : Zone) (i : Island) → i .occupi
     → (zs : List Zone) (l : List Island) → occupiedIn l ≡ false → anyWith p zs l ≡ false
 none p o [] l e = refl
 none p o (z ∷ zs) [] e = refl
-none p o (z ∷ zs) (i ∷ l) e = let each = neither (i .occupied) (occupiedIn l) e in ap₂ _||_ (o z i (each .0)) (none p o zs l (each .1))
+none p o (z ∷ zs) (i ∷ l) e = let each = neither (i .occupied) (occupiedIn l) e in
+    ap₂ _||_ (o z i (each .0)) (none p o zs l (each .1))
 
 same : (n : ℕ) (l : List Island) → occupiedIn l ≡ false → map (later n) l ≡ l
 same n [] e = refl
-same n (i ∷ l) e = let each = neither (i .occupied) (occupiedIn l) e in ap₂ _∷_ (sym (later-free n i (each .0))) (same n l (each .1))
+same n (i ∷ l) e = let each = neither (i .occupied) (occupiedIn l) e in
+    ap₂ _∷_ (sym (later-free n i (each .0))) (same n l (each .1))
 
 module _ (t : Track) (e : someOccupied t ≡ false) where
   pub no-later : (n : ℕ) → laterTrack n t ≡ t

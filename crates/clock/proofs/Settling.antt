@@ -1,5 +1,6 @@
--- What n ticks come to for a station: its live tracks n ticks later; a hold that has fallen for every tick since each timer was reached; a fault that is
--- latched from T5 on where a warning island is occupied. n may be any number: clock reports add up.
+-- What n ticks come to for a station: its live tracks n ticks later; a hold that has fallen for every tick
+-- since each timer was reached; a fault that is latched from T5 on where a warning island is occupied. n
+-- may be any number: clock reports add up.
 -- Assumes nothing.
 use Prim.Native.Nat.{ℕ, zero, suc, _+_, _-_, _≤_, _<_}
 use native.Mathlib.Decide.{decLe}
@@ -46,12 +47,14 @@ pub ticks-live : (n : ℕ) (s : Station) → live (ticks n s) ≡ map (laterTrac
 unfolding ticks tick holdSet faultLatched allOlder holdLowered
 ticks-live zero s = sym (tracks-now (live s))
 ticks-live (suc n) s =
-    changed-take olderTrack (ticks n s .settings .tracks) (ticks n s .tracks) ∙ ap (map olderTrack) (ticks-live n s) ∙ tracks-older n (live s)
+    changed-take olderTrack (ticks n s .settings .tracks) (ticks n s .tracks) ∙ ap (map olderTrack) (ticks-live n s)
+    ∙ tracks-older n (live s)
 
 -- ---- the condition and the hold
 
 -- the hold after a tick: by the condition before it and after it
-falls : (before after : Bool) (t4 hold n slow : ℕ) → hold ≤ t4 - (n - slow) → (slow ≤ n → before ≡ false) → (slow ≤ n → after ≡ false)
+falls : (before after : Bool) (t4 hold n slow : ℕ) → hold ≤ t4 - (n - slow) → (slow ≤ n → before ≡ false)
+    → (slow ≤ n → after ≡ false)
     → cond after t4 (cond (not before && ltb 0 hold) (hold - 1) hold) ≤ t4 - (suc n - slow)
 falls before after t4 hold n slow h b a = go (decLe slow n)
   where
@@ -67,7 +70,8 @@ falls before after t4 hold n slow h b a = go (decLe slow n)
 
     go : Dec (slow ≤ n) → cond after t4 (cond (not before && ltb 0 hold) (hold - 1) hold) ≤ t4 - (suc n - slow)
     go (yes k) =
-        subst (λ (v : ℕ). v ≤ t4 - (suc n - slow)) (sym (ap₂ (λ (p q : Bool). cond q t4 (cond (not p && ltb 0 hold) (hold - 1) hold)) (b k) (a k)))
+        subst (λ (v : ℕ). v ≤ t4 - (suc n - slow))
+        (sym (ap₂ (λ (p q : Bool). cond q t4 (cond (not p && ltb 0 hold) (hold - 1) hold)) (b k) (a k)))
         (lowered (ltb 0 hold) refl k)
     go (no k) = either before after (ltb 0 hold) (lt-of-not-le k)
 
@@ -86,12 +90,16 @@ module _ (s : Station) where
         ∙ any-none _ (λ t. no-fresh-then c n t limit long) (live s))
 
     -- It falls by one at each tick since.
-    pub hold-falls : (slow : ℕ) → ((z : Zone) → timer c z ≤ slow) → s .hold ≤ c .t4 → (n : ℕ) → ticks n s .hold ≤ c .t4 - (n - slow)
+    pub hold-falls : (slow : ℕ) → ((z : Zone) → timer c z ≤ slow) → s .hold ≤ c .t4 → (n : ℕ)
+        → ticks n s .hold ≤ c .t4 - (n - slow)
     unfolding ticks tick holdSet faultLatched allOlder holdLowered greatestRisk
     hold-falls slow long h zero = omega (arith, h)
     hold-falls slow long h (suc n) =
-        subst (λ (d : Settings). cond (greatestRisk (ticks (suc n) s)) (d .t4) (cond (not (greatestRisk (ticks n s)) && ltb 0 (ticks n s .hold)) (ticks n s .hold - 1) (ticks n s .hold)) ≤ c .t4 - (suc n - slow)) (sym (ticks-settings n s))
-        (falls (greatestRisk (ticks n s)) (greatestRisk (ticks (suc n) s)) (c .t4) (ticks n s .hold) n slow (hold-falls slow long h n)
+        subst (λ (d : Settings). cond (greatestRisk (ticks (suc n) s)) (d .t4) (cond (not (greatestRisk (ticks n s))
+        && ltb 0 (ticks n s .hold)) (ticks n s .hold - 1) (ticks n s .hold)) ≤ c .t4 - (suc n - slow))
+        (sym (ticks-settings n s))
+        (falls (greatestRisk (ticks n s)) (greatestRisk (ticks (suc n) s)) (c .t4) (ticks n s .hold) n slow
+        (hold-falls slow long h n)
         (λ k. no-risk-then n (λ z. omega (arith, long z, k)))
         (λ k. no-risk-then (suc n) (λ z. omega (arith, long z, k))))
 
@@ -99,12 +107,15 @@ module _ (s : Station) where
 
 module _ (s : Station) where
   -- the live tracks whose ages a tick tests
-  late-after : (n : ℕ) → any (late (ticks n s .settings)) (live (ticks (suc n) s)) ≡ any (λ t. late (s .settings) (laterTrack (suc n) t)) (live s)
+  late-after : (n : ℕ) → any (late (ticks n s .settings)) (live (ticks (suc n) s))
+      ≡ any (λ t. late (s .settings) (laterTrack (suc n) t)) (live s)
   late-after n =
-      ap₂ (λ (d : Settings) (l : List Track). any (late d) l) (ticks-settings n s) (ticks-live (suc n) s) ∙ any-map (laterTrack (suc n)) (late (s .settings)) (live s)
+      ap₂ (λ (d : Settings) (l : List Track). any (late d) l) (ticks-settings n s) (ticks-live (suc n) s)
+      ∙ any-map (laterTrack (suc n)) (late (s .settings)) (live s)
 
   -- n ticks later the fault is latched only where it was, or where a warning island is occupied,
-  fault-only : (n : ℕ) → ticks n s .fault || any (occupiedIn isWarning) (live s) ≡ s .fault || any (occupiedIn isWarning) (live s)
+  fault-only : (n : ℕ)
+      → ticks n s .fault || any (occupiedIn isWarning) (live s) ≡ s .fault || any (occupiedIn isWarning) (live s)
   unfolding ticks tick holdSet faultLatched allOlder holdLowered
   fault-only zero = refl
   fault-only (suc n) =
@@ -114,7 +125,9 @@ module _ (s : Station) where
       ∙ fault-only n
 
   -- and from T5 on it is.
-  pub fault-then : s .settings .t5 ≤ 65535 → (n : ℕ) → s .settings .t5 ≤ suc n → ticks (suc n) s .fault ≡ s .fault || any (occupiedIn isWarning) (live s)
+  pub fault-then : s .settings .t5 ≤ 65535 → (n : ℕ) → s .settings .t5 ≤ suc n
+      → ticks (suc n) s .fault ≡ s .fault || any (occupiedIn isWarning) (live s)
   unfolding ticks tick holdSet faultLatched allOlder holdLowered
   fault-then limit n long =
-      ap (λ (b : Bool). ticks n s .fault || b) (late-after n ∙ any-alike _ _ (λ t. late-at-last (s .settings) (suc n) t limit long) (live s)) ∙ fault-only n
+      ap (λ (b : Bool). ticks n s .fault || b) (late-after n
+      ∙ any-alike _ _ (λ t. late-at-last (s .settings) (suc n) t limit long) (live s)) ∙ fault-only n

@@ -34,8 +34,10 @@ two-more : (k : ℕ) (b : Bool) → leb 2 (k + cond b 1 0) ≡ leb 2 k || leb 1 
 two-more zero true = refl
 two-more (suc zero) true = refl
 two-more (suc (suc k)) true =
-    le-leb 2 (suc (suc k) + 1) (omega arith) ∙ sym (ap (λ (x : Bool). x || leb 1 (suc (suc k)) && true) (le-leb 2 (suc (suc k)) (omega arith)))
-two-more k false = ap (leb 2) (add-zero k) ∙ sym (ap (λ (x : Bool). leb 2 k || x) (and-false (leb 1 k)) ∙ or-false (leb 2 k))
+    le-leb 2 (suc (suc k) + 1) (omega arith)
+    ∙ sym (ap (λ (x : Bool). x || leb 1 (suc (suc k)) && true) (le-leb 2 (suc (suc k)) (omega arith)))
+two-more k false =
+    ap (leb 2) (add-zero k) ∙ sym (ap (λ (x : Bool). leb 2 k || x) (and-false (leb 1 k)) ∙ or-false (leb 2 k))
 
 pub timed-none : (c : Settings) → Timed c [] (record { fresh = 0; first = never; second = never; late = never })
 timed-none c =
@@ -53,7 +55,8 @@ pub timed-more : (c : Settings) (l : List Track) (j : ℕ) (d : Track) (r : Time
     → Timed c (take (j + 1) l) (withTurns r u)
 timed-more c l j d r u h e t =
     record {
-      fresh = λ n. any-more (λ x. someFresh c (laterTrack n x)) l j d h ∙ ap₂ _||_ (e .fresh n) (t .fresh n) ∙ below-greater n (r .fresh) (u .fresh);
+      fresh = λ n. any-more (λ x. someFresh c (laterTrack n x)) l j d h ∙ ap₂ _||_ (e .fresh n) (t .fresh n)
+          ∙ below-greater n (r .fresh) (u .fresh);
       first =
           λ n k.
           ap (leb 1) (count-more (λ x. present c (laterTrack n x)) l j d h)
@@ -66,7 +69,8 @@ timed-more c l j d r u h e t =
           ∙ two-more (count (λ x. present c (laterTrack n x)) (take j l)) (present c (laterTrack n (getD l j d)))
           ∙ ap₂ _||_ (e .second n k) (ap₂ _&&_ (e .first n k) (t .present n k) ∙ from-both n (r .first) (u .present))
           ∙ from-lesser n (r .second) (max (r .first) (u .present));
-      late = λ n k. any-more (λ x. late c (laterTrack n x)) l j d h ∙ ap₂ _||_ (e .late n k) (t .late n k) ∙ from-lesser n (r .late) (u .late);
+      late = λ n k. any-more (λ x. late c (laterTrack n x)) l j d h ∙ ap₂ _||_ (e .late n k) (t .late n k)
+          ∙ from-lesser n (r .late) (u .late);
     }
 
 -- a track with no island occupied adds nothing
@@ -77,10 +81,12 @@ pub timed-skip : (c : Settings) (l : List Track) (j : ℕ) (d : Track) (r : Time
     → Timed c (take (j + 1) l) r
 timed-skip c l j d r h o e =
     record {
-      fresh = λ n. any-more (λ x. someFresh c (laterTrack n x)) l j d h ∙ or-nothing _ _ (ap (someFresh c) (no-later t o n) ∙ no-fresh t o c) ∙ e .fresh n;
+      fresh = λ n. any-more (λ x. someFresh c (laterTrack n x)) l j d h
+          ∙ or-nothing _ _ (ap (someFresh c) (no-later t o n) ∙ no-fresh t o c) ∙ e .fresh n;
       first = λ n k. ap (leb 1) (uncounted n) ∙ e .first n k;
       second = λ n k. ap (leb 2) (uncounted n) ∙ e .second n k;
-      late = λ n k. any-more (λ x. late c (laterTrack n x)) l j d h ∙ or-nothing _ _ (ap (late c) (no-later t o n) ∙ no-late t o c) ∙ e .late n k;
+      late = λ n k. any-more (λ x. late c (laterTrack n x)) l j d h
+          ∙ or-nothing _ _ (ap (late c) (no-later t o n) ∙ no-late t o c) ∙ e .late n k;
     }
   where
     t : Track
@@ -89,10 +95,12 @@ timed-skip c l j d r h o e =
     or-nothing : (a b : Bool) → b ≡ false → a || b ≡ a
     or-nothing a b z = ap (λ (x : Bool). a || x) z ∙ or-false a
 
-    uncounted : (n : ℕ) → count (λ x. present c (laterTrack n x)) (take (j + 1) l) ≡ count (λ x. present c (laterTrack n x)) (take j l)
+    uncounted : (n : ℕ)
+        → count (λ x. present c (laterTrack n x)) (take (j + 1) l) ≡ count (λ x. present c (laterTrack n x)) (take j l)
     uncounted n =
         count-more (λ x. present c (laterTrack n x)) l j d h
-        ∙ ap (λ (b : Bool). count (λ x. present c (laterTrack n x)) (take j l) + cond b 1 0) (ap (present c) (no-later t o n) ∙ no-present t o c)
+        ∙ ap (λ (b : Bool). count (λ x. present c (laterTrack n x)) (take j l) + cond b 1 0)
+        (ap (present c) (no-later t o n) ∙ no-present t o c)
         ∙ add-zero (count (λ x. present c (laterTrack n x)) (take j l))
 
 -- as the code goes on
@@ -105,4 +113,5 @@ pub timed-next : (c : Settings) (l : List Track) (j : ℕ) (d : Track) (r v : Ti
     → v ≡ withTurns r u
     → Timed c (take (j + 1) l) v
 timed-next c l j d r v u hz h5 h e eu ev =
-    subst (Timed c (take (j + 1) l)) (sym ev) (timed-more c l j d r u h e (subst (Turning c (getD l j d)) (sym eu) (turning c hz h5 (getD l j d))))
+    subst (Timed c (take (j + 1) l)) (sym ev)
+    (timed-more c l j d r u h e (subst (Turning c (getD l j d)) (sym eu) (turning c hz h5 (getD l j d))))

@@ -34,7 +34,8 @@ module _ (n a timer : ℕ) (h : timer ≤ 65535) where
       go (yes k) = ap not (le-leb (timer - a) n k) ∙ sym (le-ltb n (timer - a) k)
       go (no k) = ap not (lt-leb (timer - a) n (lt-of-not-le k)) ∙ sym (lt-ltb n (timer - a) (lt-of-not-le k))
 
-  fresh-turn : (o l : Bool) → o && not (leb timer (cond o (aged n a) a)) && (o && not l) ≡ ltb n (cond (o && not l) (timer - a) 0)
+  fresh-turn : (o l : Bool)
+      → o && not (leb timer (cond o (aged n a) a)) && (o && not l) ≡ ltb n (cond (o && not l) (timer - a) 0)
   fresh-turn true true = and-false (not (leb timer (aged n a))) ∙ sym (le-ltb n 0 zero-le)
   fresh-turn true false = and-true (not (leb timer (aged n a))) ∙ fresh-until
   fresh-turn false l = sym (le-ltb n 0 zero-le)
@@ -62,8 +63,10 @@ from-both n a b = go (decLe a n) (decLe b n)
   where
     go : Dec (a ≤ n) → Dec (b ≤ n) → leb a n && leb b n ≡ leb (max a b) n
     go (yes h) (yes k) = ap₂ _&&_ (le-leb a n h) (le-leb b n k) ∙ sym (le-leb (max a b) n (omega arith))
-    go (yes h) (no k) = ap₂ _&&_ (le-leb a n h) (lt-leb b n (lt-of-not-le k)) ∙ sym (lt-leb (max a b) n (omega (arith, lt-of-not-le k)))
-    go (no h) d = ap (λ (x : Bool). x && leb b n) (lt-leb a n (lt-of-not-le h)) ∙ sym (lt-leb (max a b) n (omega (arith, lt-of-not-le h)))
+    go (yes h) (no k) = ap₂ _&&_ (le-leb a n h) (lt-leb b n (lt-of-not-le k))
+        ∙ sym (lt-leb (max a b) n (omega (arith, lt-of-not-le k)))
+    go (no h) d = ap (λ (x : Bool). x && leb b n) (lt-leb a n (lt-of-not-le h))
+        ∙ sym (lt-leb (max a b) n (omega (arith, lt-of-not-le h)))
 
 abbrev countsIn : Settings → Zone → Island → Bool
 countsIn c z i = approaching i || held c z i || isWarning z && goingAway i
@@ -76,8 +79,10 @@ below-greater n a b = go (decLe a n) (decLe b n)
   where
     go : Dec (a ≤ n) → Dec (b ≤ n) → ltb n a || ltb n b ≡ ltb n (max a b)
     go (yes h) (yes k) = ap₂ _||_ (le-ltb n a h) (le-ltb n b k) ∙ sym (le-ltb n (max a b) (omega arith))
-    go (yes h) (no k) = ap₂ _||_ (le-ltb n a h) (lt-ltb n b (lt-of-not-le k)) ∙ sym (lt-ltb n (max a b) (omega (arith, lt-of-not-le k)))
-    go (no h) d = ap (λ (x : Bool). x || ltb n b) (lt-ltb n a (lt-of-not-le h)) ∙ sym (lt-ltb n (max a b) (omega (arith, lt-of-not-le h)))
+    go (yes h) (no k) = ap₂ _||_ (le-ltb n a h) (lt-ltb n b (lt-of-not-le k))
+        ∙ sym (lt-ltb n (max a b) (omega (arith, lt-of-not-le k)))
+    go (no h) d = ap (λ (x : Bool). x || ltb n b) (lt-ltb n a (lt-of-not-le h))
+        ∙ sym (lt-ltb n (max a b) (omega (arith, lt-of-not-le h)))
 
 pub from-lesser : (n a b : ℕ) → leb a n || leb b n ≡ leb (min a b) n
 from-lesser n a b = go (decLe a n) (decLe b n)
@@ -86,7 +91,8 @@ from-lesser n a b = go (decLe a n) (decLe b n)
     go (yes h) d = ap (λ (x : Bool). x || leb b n) (le-leb a n h) ∙ sym (le-leb (min a b) n (omega arith))
     go (no h) (yes k) = ap₂ _||_ (lt-leb a n (lt-of-not-le h)) (le-leb b n k) ∙ sym (le-leb (min a b) n (omega arith))
     go (no h) (no k) =
-        ap₂ _||_ (lt-leb a n (lt-of-not-le h)) (lt-leb b n (lt-of-not-le k)) ∙ sym (lt-leb (min a b) n (omega (arith, lt-of-not-le h, lt-of-not-le k)))
+        ap₂ _||_ (lt-leb a n (lt-of-not-le h)) (lt-leb b n (lt-of-not-le k))
+        ∙ sym (lt-leb (min a b) n (omega (arith, lt-of-not-le h, lt-of-not-le k)))
 
 module _ (c : Settings) (n : ℕ) where
   -- some island of two lists side by side passes a test after n ticks exactly when the turn of them all says so
@@ -95,7 +101,8 @@ module _ (c : Settings) (n : ℕ) where
   some-fresh h [] l = sym (le-ltb n 0 zero-le)
   some-fresh h (z ∷ zs) [] = sym (le-ltb n 0 zero-le)
   some-fresh h (z ∷ zs) (i ∷ l) =
-      ap₂ _||_ (ap (freshApproaching c z) (later-is n i) ∙ fresh-turn n (i .age) (timer c z) (h z) (i .occupied) (i .leaving)) (some-fresh h zs l)
+      ap₂ _||_ (ap (freshApproaching c z) (later-is n i)
+      ∙ fresh-turn n (i .age) (timer c z) (h z) (i .occupied) (i .leaving)) (some-fresh h zs l)
       ∙ below-greater n _ _
 
   module _ (soon : n < 65536) where
@@ -105,7 +112,8 @@ module _ (c : Settings) (n : ℕ) where
     some-present h (z ∷ zs) [] = sym (lt-leb never n soon)
     some-present h (z ∷ zs) (i ∷ l) =
         ap₂ _||_
-        (ap (countsIn c z) (later-is n i) ∙ present-turn n (i .age) (timer c z) (h z) soon (i .occupied) (i .leaving) (isWarning z))
+        (ap (countsIn c z) (later-is n i)
+        ∙ present-turn n (i .age) (timer c z) (h z) soon (i .occupied) (i .leaving) (isWarning z))
         (some-present h zs l)
         ∙ from-lesser n _ _
 
@@ -114,10 +122,12 @@ module _ (c : Settings) (n : ℕ) where
     some-late h [] l = sym (lt-leb never n soon)
     some-late h (z ∷ zs) [] = sym (lt-leb never n soon)
     some-late h (z ∷ zs) (i ∷ l) =
-        ap₂ _||_ (ap (lateIn c z) (later-is n i) ∙ late-turn n (i .age) (c .t5) h soon (i .occupied) (isWarning z)) (some-late h zs l)
+        ap₂ _||_ (ap (lateIn c z) (later-is n i) ∙ late-turn n (i .age) (c .t5) h soon (i .occupied) (isWarning z))
+        (some-late h zs l)
         ∙ from-lesser n _ _
 
-pub turning : (c : Settings) → ((z : Zone) → timer c z ≤ 65535) → c .t5 ≤ 65535 → (t : Track) → Turning c t (turnsOf c t)
+pub turning : (c : Settings) → ((z : Zone) → timer c z ≤ 65535) → c .t5 ≤ 65535 → (t : Track)
+    → Turning c t (turnsOf c t)
 unfolding someFresh present late laterTrack turnsOf
 turning c h h5 t =
     record {
@@ -177,4 +187,5 @@ pub turns-of-seen : (c : Settings) (i0 i1 i2 i3 i4 : Island) (t0 t1 t2 t3 t4 r4 
     → r0 ≡ turnsOf c (record { islands = i0 ∷ i1 ∷ i2 ∷ i3 ∷ i4 ∷ [] })
 unfolding turnsOf
 turns-of-seen c i0 i1 i2 i3 i4 t0 t1 t2 t3 t4 r4 r3 r2 r1 r0 e0 e1 e2 e3 e4 f4 f3 f2 f1 f0 =
-    f0 ∙ ap₂ together e0 (f1 ∙ ap₂ together e1 (f2 ∙ ap₂ together e2 (f3 ∙ ap₂ together e3 (f4 ∙ ap (λ (t : Turns). together t noTurns) e4))))
+    f0 ∙ ap₂ together e0 (f1 ∙ ap₂ together e1 (f2
+    ∙ ap₂ together e2 (f3 ∙ ap₂ together e3 (f4 ∙ ap (λ (t : Turns). together t noTurns) e4))))

@@ -17,9 +17,11 @@ placeOf b k = record { answer = entryAnswer b k; at = handedBackAt b k; length =
 
 module _ (b : List ℕ) (k n : ℕ) (e : n ≡ entryAnswer b k) where
   pub place-refused : (n ≡ 0 → ⊥) → (r : Entry) → r ≡ record { answer = n; at = 0; length = 0 } → r ≡ placeOf b k
-  place-refused h r er = let p = part-refused b k n e h in er ∙ (λ i. record { answer = e i; at = p .1 i; length = length (p .0 i) })
+  place-refused h r er = let p = part-refused b k n e h in
+      er ∙ (λ i. record { answer = e i; at = p .1 i; length = length (p .0 i) })
 
-  pub place-done : (z : n ≡ 0) → (r : Entry) → r ≡ record { answer = n; at = entryStart (k - 1); length = 8 } → r ≡ placeOf b k
+  pub place-done : (z : n ≡ 0) → (r : Entry) → r ≡ record { answer = n; at = entryStart (k - 1); length = 8 }
+      → r ≡ placeOf b k
   unfolding entryAt
   place-done z r er =
       let p = part-done b k n e z (entryAt b (k - 1)) refl in

@@ -37,14 +37,18 @@ module _ {A : Type 0} (p : A → Bool) where
   count-append (x ∷ xs) ys = one-more (p x) (count p (xs ++ ys)) (count p xs) (count p ys) (count-append xs ys)
 
   -- one element more
-  pub any-more : (l : List A) (j : ℕ) (d : A) → j < length l → any p (take (j + 1) l) ≡ any p (take j l) || p (getD l j d)
-  any-more l j d h = rw (add-one, take-suc l j d h) (any-append (take j l) (getD l j d ∷ []) ∙ ap (λ (b : Bool). any p (take j l) || b) (or-false (p (getD l j d))))
+  pub any-more : (l : List A) (j : ℕ) (d : A) → j < length l
+      → any p (take (j + 1) l) ≡ any p (take j l) || p (getD l j d)
+  any-more l j d h = rw (add-one, take-suc l j d h)
+      (any-append (take j l) (getD l j d ∷ []) ∙ ap (λ (b : Bool). any p (take j l) || b) (or-false (p (getD l j d))))
 
-  pub count-more : (l : List A) (j : ℕ) (d : A) → j < length l → count p (take (j + 1) l) ≡ count p (take j l) + cond (p (getD l j d)) 1 0
+  pub count-more : (l : List A) (j : ℕ) (d : A) → j < length l
+      → count p (take (j + 1) l) ≡ count p (take j l) + cond (p (getD l j d)) 1 0
   count-more l j d h = rw (add-one, take-suc l j d h) (count-append (take j l) (getD l j d ∷ []))
 
 module _ {A : Type 0} where
-  -- j is where a loop over the first n of m elements ends: a number above the length names no more elements than there are
+  -- j is where a loop over the first n of m elements ends: a number above the length names no
+  -- more elements than there are
   pub take-least : (l : List A) (j n m : ℕ) → length l ≡ m → j ≡ min n m → take j l ≡ take n l
   take-least l j n m e end = go (decLe m n)
     where
@@ -97,24 +101,30 @@ module _ {A : Type 0} (f : A → A) where
   seam l j h = length-map (take j l) f ∙ length-take-le j l (omega arith)
 
   pub changed-at : (j : ℕ) (l : List A) (d : A) → j < length l → getD (changed j l) j d ≡ getD l j d
-  changed-at j l d h = rw (drop-cons l j d h) (getD-at (map f (take j l)) (getD l j d) (drop (suc j) l) d j (seam l j h))
+  changed-at j l d h =
+      rw (drop-cons l j d h) (getD-at (map f (take j l)) (getD l j d) (drop (suc j) l) d j (seam l j h))
 
-  grown : (j : ℕ) (l : List A) (d : A) → j < length l → changed (j + 1) l ≡ map f (take j l) ++ f (getD l j d) ∷ drop (suc j) l
+  grown : (j : ℕ) (l : List A) (d : A) → j < length l
+      → changed (j + 1) l ≡ map f (take j l) ++ f (getD l j d) ∷ drop (suc j) l
   grown j l d h = rw (add-one, take-suc l j d h, map-append, append-assoc)
 
-  pub changed-more : (j : ℕ) (l : List A) (d : A) → j < length l → set (changed j l) j (f (getD l j d)) ≡ changed (j + 1) l
+  pub changed-more : (j : ℕ) (l : List A) (d : A) → j < length l
+      → set (changed j l) j (f (getD l j d)) ≡ changed (j + 1) l
   changed-more j l d h =
       ap (λ (m : List A). set (map f (take j l) ++ m) j (f (getD l j d))) (drop-cons l j d h)
       ∙ set-at (map f (take j l)) (getD l j d) (drop (suc j) l) (f (getD l j d)) j (seam l j h)
       ∙ sym (grown j l d h)
 
   -- a store of what the change makes of the element that stands there
-  pub changed-next : (j : ℕ) (l m : List A) (d x : A) → j < length l → m ≡ changed j l → x ≡ f (getD m j d) → set m j x ≡ changed (j + 1) l
+  pub changed-next : (j : ℕ) (l m : List A) (d x : A) → j < length l → m ≡ changed j l → x ≡ f (getD m j d)
+      → set m j x ≡ changed (j + 1) l
   changed-next j l m d x h e g =
-      ap₂ (λ (k : List A) (y : A). set k j y) e (g ∙ ap (λ (k : List A). f (getD k j d)) e ∙ ap f (changed-at j l d h)) ∙ changed-more j l d h
+      ap₂ (λ (k : List A) (y : A). set k j y) e (g ∙ ap (λ (k : List A). f (getD k j d)) e ∙ ap f (changed-at j l d h))
+      ∙ changed-more j l d h
 
   -- an element that the change leaves as it is
-  pub changed-skip : (j : ℕ) (l m : List A) (d : A) → j < length l → m ≡ changed j l → f (getD m j d) ≡ getD m j d → m ≡ changed (j + 1) l
+  pub changed-skip : (j : ℕ) (l m : List A) (d : A) → j < length l → m ≡ changed j l → f (getD m j d) ≡ getD m j d
+      → m ≡ changed (j + 1) l
   changed-skip j l m d h e g = sym (set-getD m j d) ∙ changed-next j l m d (getD m j d) h e (sym g)
 
   pub changed-take : (j : ℕ) (l : List A) → take j (changed j l) ≡ map f (take j l)
@@ -128,4 +138,5 @@ module _ {A : Type 0} (f : A → A) where
   changed-drop (suc j) (x ∷ xs) = changed-drop j xs
 
   pub changed-least : (l : List A) (j n m : ℕ) → length l ≡ m → j ≡ min n m → changed j l ≡ changed n l
-  changed-least l j n m e end = ap₂ (λ (a b : List A). map f a ++ b) (take-least l j n m e end) (drop-least l j n m e end)
+  changed-least l j n m e end =
+      ap₂ (λ (a b : List A). map f a ++ b) (take-least l j n m e end) (drop-least l j n m e end)

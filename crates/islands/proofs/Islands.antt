@@ -24,16 +24,19 @@ pub whole : {A : Type 0} (f : Track → A) (t : Track) {r : A} → length (t .is
 whole f t e h = h ∙ ap f (sym (is-five t e))
 
 pub any-island : (p : Zone → Island → Bool) (t : Track) → length (t .islands) ≡ 5
-    → p advance (islandAt t 0) || (p warning (islandAt t 1) || (p crossing (islandAt t 2) || (p warning (islandAt t 3) || p advance (islandAt t 4)))) ≡ anyIsland p t
+    → p advance (islandAt t 0) || (p warning (islandAt t 1)
+    || (p crossing (islandAt t 2) || (p warning (islandAt t 3) || p advance (islandAt t 4)))) ≡ anyIsland p t
 any-island p t e = rw (is-five t e) (simp or-false)
 
 -- some island of five passes a test that does not ask for its zone
 pub any-of-five : (p : Island → Bool) (t : Track) → length (t .islands) ≡ 5
-    → p (islandAt t 0) || (p (islandAt t 1) || (p (islandAt t 2) || (p (islandAt t 3) || p (islandAt t 4)))) ≡ any p (t .islands)
+    → p (islandAt t 0) || (p (islandAt t 1) || (p (islandAt t 2) || (p (islandAt t 3) || p (islandAt t 4))))
+    ≡ any p (t .islands)
 any-of-five p t e = rw (is-five t e) (simp or-false)
 
 -- a number that is no advance and no warning island's is never leaving
-pub never-leaving : (t : Track) (k : ℕ) → (k ≡ 0 → ⊥) → (k ≡ 1 → ⊥) → (k ≡ 3 → ⊥) → (k ≡ 4 → ⊥) → false ≡ leavingMark t k
+pub never-leaving : (t : Track) (k : ℕ) → (k ≡ 0 → ⊥) → (k ≡ 1 → ⊥) → (k ≡ 3 → ⊥) → (k ≡ 4 → ⊥)
+    → false ≡ leavingMark t k
 unfolding leavingMark
 never-leaving t zero a b d e = absurd (a refl)
 never-leaving t (suc zero) a b d e = absurd (b refl)

@@ -1,5 +1,5 @@
--- A list of a known length is its elements, one after the other: one law for tracks of five islands, stations of four tracks and pairs of
--- heads.
+-- A list of a known length is its elements, one after the other: one law for tracks of five islands,
+-- stations of four tracks and pairs of heads.
 -- Assumes nothing.
 use Prim.Native.Nat.{ℕ, zero, suc, _<_}
 use native.Mathlib.Nat.{not-suc-le-zero, le-of-suc-le-suc}

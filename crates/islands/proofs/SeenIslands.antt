@@ -38,7 +38,8 @@ signs-of-seen c i0 i1 i2 i3 i4 s0 s1 s2 s3 s4 e0 e1 e2 e3 e4 =
     record {
       fresh = any-island (freshApproaching c) t refl k;
       present = any-island (λ z i. approaching i || held c z i || isWarning z && goingAway i) t refl k;
-      near = (ap (λ (b : Bool). freshApproaching c warning i1 || (freshApproaching c crossing i2 || b)) (sym (or-false (freshApproaching c warning i3)))) k;
+      near = (ap (λ (b : Bool). freshApproaching c warning i1 || (freshApproaching c crossing i2 || b))
+          (sym (or-false (freshApproaching c warning i3)))) k;
       ahead = any-island (λ z i. isAdvance z && freshApproaching c z i) t refl k;
       held = any-island (held c) t refl k;
     })

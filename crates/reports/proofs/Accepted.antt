@@ -23,19 +23,22 @@ Below k s r = namesIsland k ≡ true → r .a < s .settings .tracks
 module _ (s : Station) (r : Report) where
   pub place-below : placeAnswer s r ≡ 0 → Below (kindOf (r .kind)) s r
   unfolding placeAnswer
-  place-below e names = leb-false _ _ (sym (ap (λ (b : Bool). b && leb (s .settings .tracks) (r .a)) names) ∙ passed 2 _ _ e .0)
+  place-below e names =
+      leb-false _ _ (sym (ap (λ (b : Bool). b && leb (s .settings .tracks) (r .a)) names) ∙ passed 2 _ _ e .0)
 
   -- and the island is one of five
   place-five : placeAnswer s r ≡ 0 → namesIsland (kindOf (r .kind)) ≡ true → r .b < 5
   unfolding placeAnswer
   place-five e names =
-      let least = ltb-false 4 (r .b) (sym (ap (λ (b : Bool). b && ltb 4 (r .b)) names) ∙ passed 3 _ _ (passed 4 _ _ (passed 2 _ _ e .1) .1) .0) in
+      let least = ltb-false 4 (r .b)
+      (sym (ap (λ (b : Bool). b && ltb 4 (r .b)) names) ∙ passed 3 _ _ (passed 4 _ _ (passed 2 _ _ e .1) .1) .0) in
       omega arith
 
   -- the tests of place and of state refuse nothing
   last-done : answerOf s r ≡ 0 → (placeAnswer s r ≡ 0) × (stateAnswer s r ≡ 0)
   unfolding answerOf
-  last-done e = both-done _ (stateAnswer s r) (both-done (formAnswer r) _ (both-done (settingsAnswer (s .settings)) _ e .1) .1)
+  last-done e =
+      both-done _ (stateAnswer s r) (both-done (formAnswer r) _ (both-done (settingsAnswer (s .settings)) _ e .1) .1)
 
   module _ (e : answerOf s r ≡ 0) where
     pub accepted-below : Below (kindOf (r .kind)) s r

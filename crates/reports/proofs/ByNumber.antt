@@ -17,7 +17,8 @@ use Rattle.rules.specs.declared.Station.{Station}
 abbrev pub past : ℕ → ℕ
 past k = suc (suc (suc (suc (suc (suc (suc (suc k)))))))
 
-pub by-number : (P : ℕ → Type 0) → P 0 → P 1 → P 2 → P 3 → P 4 → P 5 → P 6 → P 7 → ((k : ℕ) → P (past k)) → (k : ℕ) → P k
+pub by-number : (P : ℕ → Type 0) → P 0 → P 1 → P 2 → P 3 → P 4 → P 5 → P 6 → P 7 → ((k : ℕ) → P (past k))
+    → (k : ℕ) → P k
 by-number P a b c d e f g h more zero = a
 by-number P a b c d e f g h more (suc zero) = b
 by-number P a b c d e f g h more (suc (suc zero)) = c
@@ -34,16 +35,19 @@ other k j h = ne-eqb (past k) j (λ e. omega arith)
 pub names-an-island : (k : ℕ) → eqb k 1 || eqb k 2 || eqb k 4 || eqb k 5 ≡ namesIsland (kindOf k)
 unfolding kindOf
 names-an-island =
-    by-number (λ k. eqb k 1 || eqb k 2 || eqb k 4 || eqb k 5 ≡ namesIsland (kindOf k)) refl refl refl refl refl refl refl refl
+    by-number
+    (λ k. eqb k 1 || eqb k 2 || eqb k 4 || eqb k 5 ≡ namesIsland (kindOf k)) refl refl refl refl refl refl refl refl
     (λ k. simp (other k 1 (omega arith), other k 2 (omega arith), other k 4 (omega arith), other k 5 (omega arith)))
 
 pub names-a-head : (k : ℕ) → eqb k 6 ≡ namesHead (kindOf k)
 unfolding kindOf
-names-a-head = by-number (λ k. eqb k 6 ≡ namesHead (kindOf k)) refl refl refl refl refl refl refl refl (λ k. other k 6 (omega arith))
+names-a-head = by-number (λ k. eqb k 6 ≡ namesHead (kindOf k)) refl refl refl refl refl refl refl refl
+    (λ k. other k 6 (omega arith))
 
 pub latches-fault : (k : ℕ) → eqb k 4 ≡ latches (kindOf k)
 unfolding kindOf
-latches-fault = by-number (λ k. eqb k 4 ≡ latches (kindOf k)) refl refl refl refl refl refl refl refl (λ k. other k 4 (omega arith))
+latches-fault =
+    by-number (λ k. eqb k 4 ≡ latches (kindOf k)) refl refl refl refl refl refl refl refl (λ k. other k 4 (omega arith))
 
 -- A kind that is no clock, head or normalise has its value alone shown as 0, if it is a kind.
 pub value-alone : (r : Report) (k : ℕ) → (k ≡ 3 → ⊥) → (k ≡ 6 → ⊥) → (k ≡ 7 → ⊥)
@@ -51,7 +55,8 @@ pub value-alone : (r : Report) (k : ℕ) → (k ≡ 3 → ⊥) → (k ≡ 6 → 
 unfolding kindOf
 value-alone r =
     by-number
-    (λ k. (k ≡ 3 → ⊥) → (k ≡ 6 → ⊥) → (k ≡ 7 → ⊥) → namesIsland (kindOf k) && not (eqb (r .value) 0) ≡ wrongFields (kindOf k) r)
+    (λ k. (k ≡ 3 → ⊥) → (k ≡ 6 → ⊥) → (k ≡ 7 → ⊥)
+    → namesIsland (kindOf k) && not (eqb (r .value) 0) ≡ wrongFields (kindOf k) r)
     (λ a b c. refl)
     (λ a b c. refl)
     (λ a b c. refl)
@@ -77,7 +82,8 @@ no-island P none clock head normal more =
     (λ a b c d. normal)
     (λ k a b c d. more k)
 
-pub never-already : (i : Island) (k : ℕ) → (k ≡ 1 → ⊥) → (k ≡ 2 → ⊥) → (k ≡ 4 → ⊥) → (k ≡ 5 → ⊥) → false ≡ already (kindOf k) i
+pub never-already : (i : Island) (k : ℕ) → (k ≡ 1 → ⊥) → (k ≡ 2 → ⊥) → (k ≡ 4 → ⊥) → (k ≡ 5 → ⊥)
+    → false ≡ already (kindOf k) i
 unfolding kindOf
 never-already i = no-island (λ k. false ≡ already (kindOf k) i) refl refl refl refl (λ k. refl)
 
@@ -97,11 +103,13 @@ not-blocked s =
     (λ k a. refl)
 
 -- A number that is no kind's.
-pub no-kind : (k : ℕ) → (k ≡ 1 → ⊥) → (k ≡ 2 → ⊥) → (k ≡ 3 → ⊥) → (k ≡ 4 → ⊥) → (k ≡ 5 → ⊥) → (k ≡ 6 → ⊥) → (k ≡ 7 → ⊥) → kindOf k ≡ noKind
+pub no-kind : (k : ℕ) → (k ≡ 1 → ⊥) → (k ≡ 2 → ⊥) → (k ≡ 3 → ⊥) → (k ≡ 4 → ⊥) → (k ≡ 5 → ⊥) → (k ≡ 6 → ⊥) → (k ≡ 7 → ⊥)
+    → kindOf k ≡ noKind
 unfolding kindOf
 no-kind =
     by-number
-    (λ k. (k ≡ 1 → ⊥) → (k ≡ 2 → ⊥) → (k ≡ 3 → ⊥) → (k ≡ 4 → ⊥) → (k ≡ 5 → ⊥) → (k ≡ 6 → ⊥) → (k ≡ 7 → ⊥) → kindOf k ≡ noKind)
+    (λ k. (k ≡ 1 → ⊥) → (k ≡ 2 → ⊥) → (k ≡ 3 → ⊥) → (k ≡ 4 → ⊥) → (k ≡ 5 → ⊥) → (k ≡ 6 → ⊥) → (k ≡ 7 → ⊥)
+    → kindOf k ≡ noKind)
     (λ a b c d e f g. refl)
     (λ a b c d e f g. absurd (a refl))
     (λ a b c d e f g. absurd (b refl))

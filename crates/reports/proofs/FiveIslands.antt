@@ -51,11 +51,14 @@ five-get (t ∷ l) (suc a) f = five-get l a (f .1)
 
 -- ---- of a station
 
-pub five-named : (s : Station) (a k : ℕ) (i : Island) → Five (s .tracks) → Five (withTrack s a (withIsland (trackAt s a) k i) .tracks)
+pub five-named : (s : Station) (a k : ℕ) (i : Island) → Five (s .tracks)
+    → Five (withTrack s a (withIsland (trackAt s a) k i) .tracks)
 unfolding withTrack withIsland trackAt
-five-named s a k i f = five-set (s .tracks) a _ f (length-set (getD (s .tracks) a freeTrack .islands) k i ∙ five-get (s .tracks) a f)
+five-named s a k i f =
+    five-set (s .tracks) a _ f (length-set (getD (s .tracks) a freeTrack .islands) k i ∙ five-get (s .tracks) a f)
 
 pub five-older : (s : Station) → Five (s .tracks) → Five (allOlder s .tracks)
 unfolding allOlder
 five-older s f =
-    five-append _ _ (five-aged _ (five-take (s .settings .tracks) (s .tracks) f)) (five-drop (s .settings .tracks) (s .tracks) f)
+    five-append _ _ (five-aged _ (five-take (s .settings .tracks) (s .tracks) f))
+    (five-drop (s .settings .tracks) (s .tracks) f)

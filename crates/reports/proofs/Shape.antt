@@ -1,4 +1,5 @@
--- Document 01, "What the station is": settings within their limits, four tracks, and five islands on each. No report changes that.
+-- Document 01, "What the station is": settings within their limits, four tracks, and five
+-- islands on each. No report changes that.
 -- Assumes nothing.
 use Prim.Native.Nat.{ℕ, zero, suc}
 use mathlib.Core.Path.{_≡_, refl, _∙_}
@@ -10,9 +11,11 @@ use lib.Seq.{length-front}
 use Rattle.reports.proofs.Accepted.{after-any}
 use Rattle.reports.proofs.FiveIslands.{Five, five-named, five-older}
 use Rattle.rules.specs.Answers.{stationAfter}
-use Rattle.rules.specs.Kinds.{Kind, clock, detectorFailed, detectorRestored, headCondition, islandFree, islandOccupied, kindOf, noKind, normalise}
+use Rattle.rules.specs.Kinds.{Kind, clock, detectorFailed, detectorRestored, headCondition}
+use Rattle.rules.specs.Kinds.{islandFree, islandOccupied, kindOf, noKind, normalise}
 use Rattle.rules.specs.Reports.{acted, allOlder, faultLatched, holdLowered, holdSet, olderTrack, tick, ticks, withNamed}
-use Rattle.rules.specs.Station.{freshStation, leastSettings, live, made, settingsAnswer, withCondition, withTrack, withinLimits}
+use Rattle.rules.specs.Station.{freshStation, leastSettings, live, made, settingsAnswer}
+use Rattle.rules.specs.Station.{withCondition, withTrack, withinLimits}
 use Rattle.rules.specs.Words.{_if_then_}
 use Rattle.rules.specs.declared.Island.{Island}
 use Rattle.rules.specs.declared.Report.{Report}
@@ -31,14 +34,19 @@ Shaped s = Shape (s .settings) (s .tracks)
 pub shaped-named : (s : Station) (r : Report) (i : Island) → Shaped s → Shaped (withNamed s r i)
 unfolding withTrack
 shaped-named s r i h =
-    record { within = h .within; four = length-set (s .tracks) (r .a) _ ∙ h .four; five = five-named s (r .a) (r .b) i (h .five) }
+    record {
+      within = h .within;
+      four = length-set (s .tracks) (r .a) _ ∙ h .four;
+      five = five-named s (r .a) (r .b) i (h .five);
+    }
 
 pub shaped-older : (s : Station) → Shaped s → Shaped (allOlder s)
 unfolding allOlder
 shaped-older s h =
     record {
       within = h .within;
-      four = length-front (s .tracks) (map olderTrack (live s)) (s .settings .tracks) (length-map (live s) olderTrack) ∙ h .four;
+      four = length-front (s .tracks) (map olderTrack (live s)) (s .settings .tracks) (length-map (live s) olderTrack)
+          ∙ h .four;
       five = five-older s (h .five);
     }
 
@@ -74,6 +82,7 @@ pub shaped-made : (c : Settings) → Shaped (made c .station)
 unfolding made settingsAnswer _if_then_
 shaped-made c = go (withinLimits c) refl
   where
-    go : (w : Bool) → withinLimits c ≡ w → Shaped (freshStation (cond (eqb (cond (not (withinLimits c)) 8 0) 0) c leastSettings))
+    go : (w : Bool) → withinLimits c ≡ w
+        → Shaped (freshStation (cond (eqb (cond (not (withinLimits c)) 8 0) 0) c leastSettings))
     go true e = rw e (shaped-fresh c e)
     go false e = rw e (shaped-fresh leastSettings within-least)

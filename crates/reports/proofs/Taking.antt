@@ -22,7 +22,8 @@ pub named : (now : Track → ℕ → Island) (s : Station) (r : Report) (t : Tra
     → w ≡ withTrack s (r .a) (withIsland t (r .b) i)
     → w ≡ withNamed s r (now (namedTrack s r) (r .b))
 named now s r t i w et ei ew =
-    ew ∙ ap₂ (λ (u : Track) (j : Island). withTrack s (r .a) (withIsland u (r .b) j)) et (ei ∙ ap (λ (u : Track). now u (r .b)) et)
+    ew ∙ ap₂ (λ (u : Track) (j : Island). withTrack s (r .a) (withIsland u (r .b) j)) et (ei
+    ∙ ap (λ (u : Track). now u (r .b)) et)
 
 -- a kind is what its number means
 pub meant : (s : Station) (r : Report) {k : ℕ} → r .kind ≡ k → acted (kindOf (r .kind)) s r ≡ acted (kindOf k) s r
@@ -44,5 +45,6 @@ answer-below s r =
     group-below 9 _ _ (test-below 9 8 0 _ (omega arith) (omega arith))
     (group-below 9 _ _ (test-below 9 1 _ _ (omega arith) (test-below 9 2 0 _ (omega arith) (omega arith)))
     (group-below 9 _ _
-    (test-below 9 3 _ _ (omega arith) (test-below 9 5 _ _ (omega arith) (test-below 9 4 0 _ (omega arith) (omega arith))))
+    (test-below 9 3 _ _ (omega arith)
+    (test-below 9 5 _ _ (omega arith) (test-below 9 4 0 _ (omega arith) (omega arith))))
     (test-below 9 6 _ _ (omega arith) (test-below 9 7 0 _ (omega arith) (omega arith)))))

@@ -34,4 +34,5 @@ pub naming :
     → refused ++ number ++ (32 ∷ 97 ∷ 116 ∷ 32 ∷ []) ++ named ++ lineFeed ≡ refusalLine answer entry
 unfolding refusalLine
 naming answer entry h e n =
-    rw (e, n, eq-eqb answer notReplayed h) (ap (λ l. refused ++ (l ++ lineFeed)) (append-assoc (decimal answer) (32 ∷ 97 ∷ 116 ∷ 32 ∷ []) (decimal entry)))
+    rw (e, n, eq-eqb answer notReplayed h)
+    (ap (λ l. refused ++ (l ++ lineFeed)) (append-assoc (decimal answer) (32 ∷ 97 ∷ 116 ∷ 32 ∷ []) (decimal entry)))

@@ -1,4 +1,5 @@
--- A field of a number, so many bits from a place up, is the value of the bits that the definitions read there one by one.
+-- A field of a number, so many bits from a place up, is the value of the bits that the
+-- definitions read there one by one.
 use mathlib.Core.Path.{_≡_, _∙_, refl, sym, ap, ap₂}
 use mathlib.Core.Bool.{Bool, cond}
 use mathlib.Core.List.{List, [], _∷_}

@@ -18,10 +18,11 @@ at : (f : ℕ → Bool) (n : ℕ) → every f n ≡ true → (k : ℕ) → k < n
 at f zero t k h = absurd (not-suc-le-zero h)
 at f (suc n) t k h =
     let both = and-eq-true-iff (every f n) (f n) .0 t in
-    ⊎-elim (λ e. subst (λ (m : ℕ). f m ≡ true) (sym e) (both .1)) (λ l. at f n (both .0) k l) (eq-or-lt-of-le (le-of-suc-le-suc h))
+    ⊎-elim (λ e. subst (λ (m : ℕ). f m ≡ true) (sym e) (both .1)) (λ l. at f n (both .0) k l)
+    (eq-or-lt-of-le (le-of-suc-le-suc h))
 
--- An entry of the table t is what f says, where the test passes at each. The test stands in the equation, so that it is computed over
--- whichever table a goal reads.
+-- An entry of the table t is what f says, where the test passes at each. The test stands in the equation, so that it is
+-- computed over whichever table a goal reads.
 pub entry : (f : ℕ → ℕ) (n : ℕ) (t : List ℕ) (a : ℕ) → a < n
     → getD t a 0 ≡ cond (every (λ k. eqb (getD t k 0) (f k)) n) (f a) (getD t a 0)
 entry f n t a h = go (every right n) (λ e. eqb-true (getD t a 0) (f a) (at right n e a h))

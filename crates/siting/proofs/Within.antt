@@ -18,7 +18,8 @@ most : (l m x : ℕ) → within l m x ≡ true → x ≤ m
 most l m x t = leb-true x m (and-eq-true-iff (leb l x) (leb x m) .0 t .1)
 
 pub bounds : (v l m x : ℕ) → good v l m x ≡ true → (v ≤ 350) × (x ≤ m)
-bounds v l m x t = let each = and-eq-true-iff (speedGood v) (within l m x) .0 t in (most 1 350 v (each .0), most l m x (each .1))
+bounds v l m x t = let each = and-eq-true-iff (speedGood v) (within l m x) .0 t in
+    (most 1 350 v (each .0), most l m x (each .1))
 
 -- the numerator, a product of two bounded numbers, is never above what `found` takes
 pub product : {a b : ℕ} (x y : ℕ) → T (leb (x * y) 157500) → a ≤ x → b ≤ y → a * b ≤ 157500

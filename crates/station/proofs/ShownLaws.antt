@@ -1,5 +1,5 @@
--- The aspect as the code works it out, with one test for both lines that put a station out of service; and the zones, once the tracks have been
--- gone through.
+-- The aspect as the code works it out, with one test for both lines that put a station out of service; and the zones,
+-- once the tracks have been gone through.
 -- Assumes nothing.
 use Prim.Native.Nat.{ℕ, _+_, _<_, min}
 use mathlib.Core.Path.{_≡_, refl, sym, ap, _∙_}
@@ -84,27 +84,34 @@ settled-is s good out v risk hold line eg eo ev er eh el = λ i. record { hold =
     shown : line ≡ aspectOf (holdSet s)
     shown =
         el
-        ∙ (λ i. 5 if out-seen i then 3 if risk-seen i || ltb 0 (held i) then 2 if ev i .near then 1 if ev i .ahead then 4 if ev i .held then 0)
+        ∙ (λ i. 5 if out-seen i then 3 if risk-seen i || ltb 0 (held i) then 2 if ev i .near then 1 if ev i .ahead
+        then 4 if ev i .held then 0)
         ∙ aspect-is (holdSet s)
 
--- The zones that the first j tracks occupy, and with one track more. A number above four names no more tracks than four.
+-- The zones that the first j tracks occupy, and with one track more. A number above four names
+-- no more tracks than four.
 abbrev pub occupiedBy : List Track → List Bool
 occupiedBy l = map (λ k. any (λ t. islandAt t k .occupied) l) (0 ∷ 1 ∷ 2 ∷ 3 ∷ 4 ∷ [])
 
 pub occupied-more : (l : List Track) (j : ℕ) (zones next : List Bool) → j < length l → zones ≡ occupiedBy (take j l)
-    → next ≡ map (λ k. getD zones k false || islandAt (getD l j (record { islands = [] })) k .occupied) (0 ∷ 1 ∷ 2 ∷ 3 ∷ 4 ∷ [])
+    → next ≡ map (λ k.
+    getD zones k false || islandAt (getD l j (record { islands = [] })) k .occupied) (0 ∷ 1 ∷ 2 ∷ 3 ∷ 4 ∷ [])
     → next ≡ occupiedBy (take (j + 1) l)
-occupied-more l j zones next h e en = en ∙ ap (λ (z : List Bool). map (λ k. getD z k false || islandAt (getD l j (record { islands = [] })) k .occupied) (0 ∷ 1 ∷ 2 ∷ 3 ∷ 4 ∷ [])) e
+occupied-more l j zones next h e en = en ∙ ap (λ (z : List Bool).
+    map (λ k. getD z k false || islandAt (getD l j (record { islands = [] })) k .occupied) (0 ∷ 1 ∷ 2 ∷ 3 ∷ 4 ∷ [])) e
     ∙ λ i. more 0 i ∷ more 1 i ∷ more 2 i ∷ more 3 i ∷ more 4 i ∷ []
   where
-    more : (k : ℕ) → any (λ t. islandAt t k .occupied) (take j l) || islandAt (getD l j (record { islands = [] })) k .occupied ≡ any (λ t. islandAt t k .occupied) (take (j + 1) l)
+    more : (k : ℕ) → any (λ t. islandAt t k .occupied) (take j l) || islandAt (getD l j
+        (record { islands = [] })) k .occupied ≡ any (λ t. islandAt t k .occupied) (take (j + 1) l)
     more k = sym (any-more (λ t. islandAt t k .occupied) l j (record { islands = [] }) h)
 
-pub occupied-all : (l : List Track) (n j : ℕ) (zones : List Bool) → length l ≡ 4 → j ≡ min n 4 → zones ≡ occupiedBy (take j l) → zones ≡ occupiedBy (take n l)
+pub occupied-all : (l : List Track) (n j : ℕ) (zones : List Bool) → length l ≡ 4 → j ≡ min n 4
+    → zones ≡ occupiedBy (take j l) → zones ≡ occupiedBy (take n l)
 occupied-all l n j zones len end e = e ∙ ap occupiedBy (take-least l j n 4 len end)
 
 -- a zone's digit
-pub zone-digit : (zones due : List Bool) → zones ≡ due → (k n : ℕ) → n ≡ cond (getD zones k false) 0 1 → n ≡ cond (getD due k false) 0 1
+pub zone-digit : (zones due : List Bool) → zones ≡ due → (k n : ℕ) → n ≡ cond (getD zones k false) 0 1
+    → n ≡ cond (getD due k false) 0 1
 zone-digit zones due e k n h = h ∙ ap (λ (z : List Bool). cond (getD z k false) 0 1) e
 
 -- there are five zone digits
@@ -112,6 +119,7 @@ pub zones-five : (s : Station) → length (zonesOf s) ≡ 5
 unfolding zonesOf
 zones-five s = go (withinLimits (s .settings))
   where
-    go : (t : Bool) → length {A = ℕ} (cond t (map (λ k. cond (zoneOccupied s k) 0 1) (0 ∷ 1 ∷ 2 ∷ 3 ∷ 4 ∷ [])) (replicate 5 0)) ≡ 5
+    go : (t : Bool)
+        → length {A = ℕ} (cond t (map (λ k. cond (zoneOccupied s k) 0 1) (0 ∷ 1 ∷ 2 ∷ 3 ∷ 4 ∷ [])) (replicate 5 0)) ≡ 5
     go true = refl
     go false = refl

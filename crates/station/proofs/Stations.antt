@@ -18,7 +18,8 @@ module _ (c : Settings) (n : ℕ) (s : Station) (e : n ≡ settingsAnswer c) whe
   unfolding made
   made-of z f = rw (f, e) (rw (eq-eqb (settingsAnswer c) 0 (sym e ∙ z)))
 
-  pub made-least : (n ≡ 0 → ⊥) → s ≡ freshStation leastSettings → _≡_ {A = Made} (record { answer = n; station = s }) (made c)
+  pub made-least : (n ≡ 0 → ⊥) → s ≡ freshStation leastSettings
+      → _≡_ {A = Made} (record { answer = n; station = s }) (made c)
   unfolding made
   made-least z f = rw (f, e) (rw (ne-eqb (settingsAnswer c) 0 (λ q. z (e ∙ q))))
 
@@ -27,6 +28,7 @@ pub risk-is : (s : Station) → risky (surveyOf (s .settings) (take (s .settings
 unfolding surveyOf greatestRisk
 risk-is s = refl
 
-pub held-up : (s : Station) (b : Bool) → b ≡ risky (surveyOf (s .settings) (take (s .settings .tracks) (s .tracks))) → withHold s (cond b (s .settings .t4) (s .hold)) ≡ holdSet s
+pub held-up : (s : Station) (b : Bool) → b ≡ risky (surveyOf (s .settings) (take (s .settings .tracks) (s .tracks)))
+    → withHold s (cond b (s .settings .t4) (s .hold)) ≡ holdSet s
 unfolding holdSet
 held-up s b e = ap (λ (r : Bool). withHold s (cond r (s .settings .t4) (s .hold))) (e ∙ risk-is s)

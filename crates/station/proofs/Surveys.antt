@@ -43,7 +43,8 @@ survey-more c l j d v g h ev eg =
     (λ k.
     record {
       fresh = sym (any-more (someFresh c) l j d h) k;
-      present = (ap (λ (n : ℕ). surveyOf c (take j l) .present + n) (bool-byte (present c (getD l j d))) ∙ sym (count-more (present c) l j d h)) k;
+      present = (ap (λ (n : ℕ). surveyOf c (take j l) .present + n) (bool-byte (present c (getD l j d)))
+          ∙ sym (count-more (present c) l j d h)) k;
       near = sym (any-more (freshNear c) l j d h) k;
       ahead = sym (any-more (freshAdvance c) l j d h) k;
       held = sym (any-more (someHeld c) l j d h) k;

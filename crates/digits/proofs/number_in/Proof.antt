@@ -35,21 +35,28 @@ shared-slice-read-found c = search needs
 is-digit-requires : tie.Need-is-digit-requires Inv-loop μ-loop
 is-digit-requires c κs = search needs
 
+-- the text that was given, from the head of the loop; and a turn's test, from where its byte is asked
+abbrev text : tie.At-loop Inv-loop μ-loop → List ℕ
+text c = c .before .before .before .args .text .now
+
+abbrev tested : tie.After-is-digit Inv-loop μ-loop → tie.In-loop Inv-loop μ-loop
+tested c = c .before .before
+
 returns-2 : tie.Need-returns-2 Inv-loop μ-loop
 returns-2 c =
-    let turn = c .before .before .before in
-    let text = turn .before .before .before .before .args .text .now in
+    let turn = tested (c .before) in
+    let here = turn .before in
     sym
-    (counted-other text (turn .before .loop .place) (turn .before .loop .number) (turn .loop-test .taken)
+    (counted-other (text here) (here .loop .place) (here .loop .number) (turn .loop-test .taken)
     (sym (c .before .is-digit .ensures) ∙ not-true _ (c .if2 .taken)))
-    ∙ turn .before .loop .inv .2
+    ∙ here .loop .inv .2
 
 module _ (c : tie.Else2 Inv-loop μ-loop) where
   abbrev turn : tie.In-loop Inv-loop μ-loop
-  turn = c .before .before .before
+  turn = tested (c .before)
 
   abbrev lent : List ℕ
-  lent = turn .before .before .before .before .args .text .now
+  lent = text (turn .before)
 
   abbrev found : ℕ
   found = getD lent (turn .before .loop .place) 0
@@ -95,9 +102,9 @@ loop-again c = (search needs, omega arith, next (c .before))
 
 returns-4 : tie.Need-returns-4 Inv-loop μ-loop
 returns-4 c =
-    let text = c .before .before .before .before .args .text .now in
-    sym (counted-over text (c .before .loop .place) (c .before .loop .number) (omega arith) (omega arith))
-    ∙ c .before .loop .inv .2
+    let here = c .before in
+    sym (counted-over (text here) (here .loop .place) (here .loop .number) (omega arith) (omega arith))
+    ∙ here .loop .inv .2
 
 pub number-in-spec : {M : Type 1} → statement M
 number-in-spec =

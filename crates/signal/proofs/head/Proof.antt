@@ -1,4 +1,5 @@
--- `signal::head` meets its contract: read field by field it is the definition (`dark-shows`, `lit-shows`), and the code's tests pick the case.
+-- `signal::head` meets its contract: read field by field it is the definition (`dark-shows`,
+-- `lit-shows`), and the code's tests pick the case.
 use mathlib.Core.Path.{sym}
 use mathlib.Core.Logic.{⊎-elim}
 use Prim.Native.Nat.{_%_}
@@ -20,16 +21,21 @@ mul-result c = omega (arith, heard-small (c .before .before .args .outputs) (c .
 
 add-result : tie.Need-add-result
 add-result c =
-    let h = heard-small (c .before .before .before .args .outputs) (c .before .before .before .args .condition) in
-    ⊎-elim (λ w. omega arith) (λ w. omega arith) (c .before .if2 .came)
+    let met = c .before in
+    let given = met .before .before .args in
+    let h = heard-small (given .outputs) (given .condition) in
+    ⊎-elim (λ w. omega arith) (λ w. omega arith) (met .if2 .came)
 
 returns-2 : tie.Need-returns-2
 returns-2 c =
-    let o = c .before .before .before .args .outputs in
-    let d = c .before .before .before .args .condition in
-    rw (lit-shows o d _ (c .before .before .if1 .left) (omega arith))
-    (⊎-elim (λ w. rw (eq-eqb (d % 16) 0 (w .0 .taken)) (omega arith)) (λ w. rw (ne-eqb (d % 16) 0 (w .0 .left)) (omega arith))
-    (c .before .if2 .came))
+    let met = c .before in
+    let lit = met .before in
+    let o = lit .before .args .outputs in
+    let d = lit .before .args .condition in
+    rw (lit-shows o d _ (lit .if1 .left) (omega arith))
+    (⊎-elim (λ w. rw (eq-eqb (d % 16) 0 (w .0 .taken)) (omega arith))
+    (λ w. rw (ne-eqb (d % 16) 0 (w .0 .left)) (omega arith))
+    (met .if2 .came))
 
 pub head-spec : {M : Type 1} → statement M
 head-spec = tie.close (tie.spec returns sub-heard mul-result add-result returns-2)

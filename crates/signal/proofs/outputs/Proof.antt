@@ -1,5 +1,5 @@
--- `signal::outputs` meets its contract: each row of the code's table is its aspect's columns, by one test computed over the rows, and a
--- number above them shows nothing.
+-- `signal::outputs` meets its contract: each row of the code's table is its aspect's columns, by one test computed over
+-- the rows, and a number above them shows nothing.
 use mathlib.Core.Path.{sym}
 use borrow.Author.Needs.{needs}
 use Rattle.rules.specs.Outputs.{outputsOf}

@@ -21,7 +21,8 @@ add-found : tie.Need-add-found
 add-found c = search needs
 
 found-requires : tie.Need-found-requires
-found-requires c κs = let b = bounds (c .before .before .args .speed) 0 60 (c .before .number .result) (simp leb·zero (c .if1 .taken)) in
+found-requires c κs =
+    let b = bounds (c .before .before .args .speed) 0 60 (c .before .number .result) (simp leb·zero (c .if1 .taken)) in
     product 1750 90 tt (omega arith) (omega arith)
 
 mul-found-2 : tie.Need-mul-found-2
@@ -29,18 +30,24 @@ mul-found-2 c = omega (arith, found-requires c tt)
 
 returns : tie.Need-returns
 unfolding advanceSited
-returns c = let v = c .before .before .before .args .speed in
-    let m = c .before .before .number .result in
-    rw (← c .before .before .number .ensures) (met (good v 0 60 m) (advanceMetres v m) (simp leb·zero (c .before .if1 .taken)) (c .found .ensures))
+returns c =
+    let found = c .before .before in
+    let v = found .before .args .speed in
+    let m = found .number .result in
+    rw (← found .number .ensures)
+    (met (good v 0 60 m) (advanceMetres v m) (simp leb·zero (c .before .if1 .taken)) (c .found .ensures))
 
 refused-requires : tie.Need-refused-requires
 refused-requires c κs = search needs
 
 returns-2 : tie.Need-returns-2
 unfolding advanceSited
-returns-2 c = let v = c .before .before .before .args .speed in
-    let m = c .before .before .number .result in
-    rw (← c .before .before .number .ensures) (missed (good v 0 60 m) (advanceMetres v m) (simp leb·zero (c .before .if1 .left)) (c .refused .ensures))
+returns-2 c =
+    let found = c .before .before in
+    let v = found .before .args .speed in
+    let m = found .number .result in
+    rw (← found .number .ensures)
+    (missed (good v 0 60 m) (advanceMetres v m) (simp leb·zero (c .before .if1 .left)) (c .refused .ensures))
 
 pub advance-spec : {M : Type 1} → statement M
 advance-spec =

@@ -9,7 +9,8 @@ grown-requires : tie.Need-grown-requires
 grown-requires c κs = search needs
 
 returns : tie.Need-returns
-returns c = later-occupied (c .before .before .args .n) (c .before .before .args .island) _ (c .before .if1 .taken) (search needs) (c .grown .ensures)
+returns c = later-occupied (c .before .before .args .n) (c .before .before .args .island) _ (c .before .if1 .taken)
+    (search needs) (c .grown .ensures)
 
 returns-2 : tie.Need-returns-2
 returns-2 c = later-free (c .before .args .n) (c .before .args .island) (c .if1 .left)

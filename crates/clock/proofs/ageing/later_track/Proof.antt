@@ -40,19 +40,22 @@ array-copy-out-later-5 c = search needs
 later-requires-5 : tie.Need-later-requires-5
 later-requires-5 c κs = search needs
 
+five : (c : tie.Start) → length (c .args .track .islands) ≡ 5
+five c = search (needs, counted)
+
 returns : tie.Need-returns
 unfolding laterTrack
-returns c = let a = c .before .before .before .before .before .before .before .before .before .before .before .args in
-    let len : length (a .track .islands) ≡ 5 = search (needs, counted) in
+returns c =
     let fourth = c .before .before in
     let third = fourth .before .before in
     let second = third .before .before in
     let first = second .before .before in
-    whole (laterTrack (a .n)) (a .track) len
-    (λ i.
-    record {
+    let given = first .before .before .before in
+    whole (laterTrack (given .args .n)) (given .args .track) (five given)
+    (λ i. record {
       islands =
-          first .later .ensures i ∷ second .later2 .ensures i ∷ third .later3 .ensures i ∷ fourth .later4 .ensures i ∷ c .later5 .ensures i ∷ [];
+          first .later .ensures i ∷ second .later2 .ensures i ∷ third .later3 .ensures i ∷ fourth .later4 .ensures i
+          ∷ c .later5 .ensures i ∷ [];
     })
 
 pub later-track-spec : {M : Type 1} → statement M

@@ -51,8 +51,10 @@ loop-less : tie.Need-loop-less Inv-loop μ-loop
 loop-less c = search needs
 
 loop-again : tie.Need-loop-again Inv-loop μ-loop
-loop-again c = let k = c .before .before .before .before .loop in
-    let a = c .before .before .before .before .before .before .args in
+loop-again c =
+    let turn = c .before .before .before .before in
+    let k = turn .loop in
+    let a = turn .before .before .args in
     let f = laterTrack (a .n) in
     let len : length (a .tracks) ≡ 4 = search (needs, counted) in
     let below : k .j < length (a .tracks) = omega arith in (
@@ -60,7 +62,8 @@ loop-again c = let k = c .before .before .before .before .loop in
       ⊎-elim
           (λ w. (
             ap length (w .2) ∙ length-set (k .later) (k .j) (w .1 .result) ∙ k .inv .1 .0,
-            w .2 ∙ changed-next f (k .j) (a .tracks) (k .later) (record { islands = [] }) (w .1 .result) below (k .inv .1 .1) (w .1 .ensures),
+            w .2 ∙ changed-next f (k .j) (a .tracks) (k .later) (record { islands = [] }) (w .1 .result) below
+                (k .inv .1 .1) (w .1 .ensures),
           ))
           (λ w. (
             ap length (w .1) ∙ k .inv .1 .0,
@@ -72,9 +75,12 @@ loop-again c = let k = c .before .before .before .before .loop in
     )
 
 returns : tie.Need-returns Inv-loop μ-loop
-returns c = let a = c .before .before .before .args in
+returns c =
+    let turn = c .before in
+    let a = turn .before .before .args in
     let len : length (a .tracks) ≡ 4 = search (needs, counted) in
-    c .before .loop .inv .1 .1 ∙ changed-least (laterTrack (a .n)) (a .tracks) (c .before .loop .j) (a .settings .tracks) 4 len (omega arith)
+    turn .loop .inv .1 .1
+    ∙ changed-least (laterTrack (a .n)) (a .tracks) (turn .loop .j) (a .settings .tracks) 4 len (omega arith)
 
 pub later-tracks-spec : {M : Type 1} → statement M
 later-tracks-spec =

@@ -11,7 +11,8 @@ use Rattle.clock.proofs.holding.hold_after.Statement.{statement}
 use Rattle.clock.proofs.holding.hold_after.Tie as tie
 
 abbrev Inv-loop : tie.InvT-loop
-Inv-loop table t4 hold n left₀ risk₀ i₀ left risk i = (i ≤ n) × ((left ≡ holdAfter (riskAt table) t4 hold i) × (risk ≡ riskAt table i))
+Inv-loop table t4 hold n left₀ risk₀ i₀ left risk i =
+    (i ≤ n) × ((left ≡ holdAfter (riskAt table) t4 hold i) × (risk ≡ riskAt table i))
 
 abbrev μ-loop : tie.MeasureT-loop
 μ-loop table t4 hold n left₀ risk₀ i₀ left risk i = n - i
@@ -39,14 +40,18 @@ loop-less : tie.Need-loop-less Inv-loop μ-loop
 loop-less c = search needs
 
 loop-again : tie.Need-loop-again Inv-loop μ-loop
-loop-again c = let a = c .before .before .before .before .before .before .args in
-    let k = c .before .before .before .before .loop in (
+loop-again c =
+    let lower = c .before .before in
+    let turn = lower .before .before in
+    let k = turn .loop in
+    let a = turn .before .before .args in (
       search needs,
       (
-        hold-more (riskAt (a .table)) (a .t4) (a .hold) (k .i) (k .risk) (c .before .risk-at2 .result) (k .left) (c .before .before .lowered .result) (c .held-up .result)
+        hold-more (riskAt (a .table)) (a .t4) (a .hold) (k .i) (k .risk) (c .before .risk-at2 .result) (k .left)
+            (lower .lowered .result) (c .held-up .result)
             (k .inv .1 .0)
             (k .inv .1 .1)
-            (c .before .before .lowered .ensures)
+            (lower .lowered .ensures)
             (c .before .risk-at2 .ensures)
             (c .held-up .ensures),
         c .before .risk-at2 .ensures,
@@ -54,9 +59,11 @@ loop-again c = let a = c .before .before .before .before .before .before .args i
     )
 
 returns : tie.Need-returns Inv-loop μ-loop
-returns c = let a = c .before .before .before .args in
-    let end : c .before .loop .i ≡ a .n = omega arith in
-    c .before .loop .inv .1 .0 ∙ ap (holdAfter (riskAt (a .table)) (a .t4) (a .hold)) end
+returns c =
+    let turn = c .before in
+    let a = turn .before .before .args in
+    let end : turn .loop .i ≡ a .n = omega arith in
+    turn .loop .inv .1 .0 ∙ ap (holdAfter (riskAt (a .table)) (a .t4) (a .hold)) end
 
 pub hold-after-spec : {M : Type 1} → statement M
 hold-after-spec =

@@ -8,7 +8,8 @@ use Rattle.clock.proofs.holding.lowered.Statement.{statement}
 use Rattle.clock.proofs.holding.lowered.Tie as tie
 
 sub-result : tie.Need-sub-result
-sub-result c = let a = c .before .args in ltb-true 0 (a .hold) (second (not (a .risk)) (ltb 0 (a .hold)) (c .if1 .taken))
+sub-result c = let a = c .before .args in
+    ltb-true 0 (a .hold) (second (not (a .risk)) (ltb 0 (a .hold)) (c .if1 .taken))
 
 returns : tie.Need-returns
 returns c = simp (c .if1 .taken)

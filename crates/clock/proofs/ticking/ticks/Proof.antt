@@ -15,11 +15,14 @@ later-tracks-requires : tie.Need-later-tracks-requires
 later-tracks-requires c κs = search needs
 
 returns : tie.Need-returns
-returns c = let table = c .before .before .before .before in
+returns c =
+    let held = c .before in
+    let table = held .before .before .before in
     let a = table .before .before .before .args in
-    ticks-made (a .station) (table .timetable-of .result) (table .timetable-of .ensures) (a .n) (c .before .hold-after .result) (c .later-tracks .result)
+    ticks-made (a .station) (table .timetable-of .result) (table .timetable-of .ensures) (a .n)
+    (held .hold-after .result) (c .later-tracks .result)
     (search needs)
-    (c .before .hold-after .ensures)
+    (held .hold-after .ensures)
     (c .later-tracks .ensures)
 
 pub ticks-spec : {M : Type 1} → statement M

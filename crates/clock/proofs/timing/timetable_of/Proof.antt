@@ -50,29 +50,35 @@ loop-less : tie.Need-loop-less Inv-loop μ-loop
 loop-less c = search needs
 
 loop-again : tie.Need-loop-again Inv-loop μ-loop
-loop-again c = let k = c .before .before .before .before .loop in
-    let a = c .before .before .before .before .before .before .args in
+loop-again c =
+    let turn = c .before .before .before .before in
+    let k = turn .loop in
+    let a = turn .before .before .args in
     let len : length (a .t2) ≡ 4 = search (needs, counted) in
     let below : k .j < length (a .t2) = omega arith in (
       search needs,
       ⊎-elim
           (λ w.
-          timed-next (a .settings) (a .t2) (k .j) (record { islands = [] }) _ _ _ (timers (a .settings) (search needs) (search needs) (search needs)) (search needs) below
+          timed-next (a .settings) (a .t2) (k .j) (record { islands = [] })
+          _ _ _ (timers (a .settings) (search needs) (search needs) (search needs)) (search needs) below
           (k .inv .1)
           (w .1 .ensures)
           (w .3 ∙ w .2 .ensures))
           (λ w.
           subst (Timed (a .settings) (take (k .j + 1) (a .t2))) (sym (w .1))
-          (timed-skip (a .settings) (a .t2) (k .j) (record { islands = [] }) _ below (sym (c .before .some-occupied .ensures) ∙ w .0 .left) (k .inv .1)))
+          (timed-skip (a .settings) (a .t2) (k .j) (record { islands = [] }) _ below
+          (sym (c .before .some-occupied .ensures) ∙ w .0 .left) (k .inv .1)))
           (c .if1 .came),
     )
 
 returns : tie.Need-returns Inv-loop μ-loop
-returns c = let a = c .before .before .before .args in
+returns c =
+    let turn = c .before in
+    let a = turn .before .before .args in
     let len : length (a .t2) ≡ 4 = search (needs, counted) in
-    subst (λ (l : List Track). Timed (a .settings) l (c .before .loop .table))
-    (take-least (a .t2) (c .before .loop .j) (a .settings .tracks) 4 len (omega arith))
-    (c .before .loop .inv .1)
+    subst (λ (l : List Track). Timed (a .settings) l (turn .loop .table))
+    (take-least (a .t2) (turn .loop .j) (a .settings .tracks) 4 len (omega arith))
+    (turn .loop .inv .1)
 
 pub timetable-of-spec : {M : Type 1} → statement M
 timetable-of-spec =

@@ -22,11 +22,15 @@ lesser-requires-3 : tie.Need-lesser-requires-3
 lesser-requires-3 c κs = search needs
 
 returns : tie.Need-returns
-returns c = λ k.
-    record {
-      fresh = c .before .before .before .greater2 .ensures k;
-      first = c .before .before .lesser .ensures k;
-      second = (c .before .lesser2 .ensures ∙ ap (min (c .before .before .before .before .before .args .table .second)) (c .before .before .before .before .greater .ensures)) k;
+returns c =
+    let second = c .before in
+    let first = second .before in
+    let fresh = first .before in
+    let late = fresh .before in
+    λ k. record {
+      fresh = fresh .greater2 .ensures k;
+      first = first .lesser .ensures k;
+      second = (second .lesser2 .ensures ∙ ap (min (late .before .args .table .second)) (late .greater .ensures)) k;
       late = c .lesser3 .ensures k;
     }
 

@@ -7,7 +7,8 @@ use Rattle.clock.proofs.turning.turn.Statement.{statement}
 use Rattle.clock.proofs.turning.turn.Tie as tie
 
 returns : tie.Need-returns
-returns c = let a = c .before .before .args in turn-free (a .timer) (a .t5) (a .warning) (a .island) (not-true (a .island .occupied) (c .if1 .taken))
+returns c = let a = c .before .before .args in
+    turn-free (a .timer) (a .t5) (a .warning) (a .island) (not-true (a .island .occupied) (c .if1 .taken))
 
 left-requires : tie.Need-left-requires
 left-requires c κs = search needs
@@ -25,7 +26,16 @@ choose-requires-3 : tie.Need-choose-requires-3
 choose-requires-3 c κs = search needs
 
 returns-2 : tie.Need-returns-2
-returns-2 c = let a = c .before .before .before .before .before .before .before .before .before .before .args in turn-made (a .timer) (a .t5) (a .warning) (a .island) _ _ _ _ _ (not-false (a .island .occupied) (c .before .before .before .before .before .before .before .before .if1 .left)) (c .before .before .before .before .before .left .ensures) (c .before .before .before .choose .ensures) (c .before .before .choose2 .ensures) (c .before .left2 .ensures) (c .choose3 .ensures)
+returns-2 c =
+    let left = c .before in
+    let second = left .before in
+    let first = second .before in
+    let freed = first .before .before in
+    let tested = freed .before .before .before in
+    let a = tested .before .before .args in
+    turn-made (a .timer) (a .t5) (a .warning)
+    (a .island) _ _ _ _ _ (not-false (a .island .occupied) (tested .if1 .left)) (freed .left .ensures)
+    (first .choose .ensures) (second .choose2 .ensures) (left .left2 .ensures) (c .choose3 .ensures)
 
 pub turn-spec : {M : Type 1} → statement M
 turn-spec =

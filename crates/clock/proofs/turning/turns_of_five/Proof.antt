@@ -36,18 +36,27 @@ join-requires-5 : tie.Need-join-requires-5
 join-requires-5 c κs = search needs
 
 returns : tie.Need-returns
-returns c = let k = c .before .before .before .before .before in
-    let a = k .before .before .before .before .before .args in
+returns c =
+    let fourth = c .before in
+    let third = fourth .before in
+    let second = third .before in
+    let first = second .before in
+    let turn5 = first .before in
+    let turn4 = turn5 .before in
+    let turn3 = turn4 .before in
+    let turn2 = turn3 .before in
+    let turn1 = turn2 .before in
+    let a = turn1 .before .args in
     turns-of-seen (a .c) (a .i0) (a .i1) (a .i2) (a .i3) (a .i4) _ _ _ _ _ _ _ _ _ _
-    (k .before .before .before .before .turn .ensures)
-    (k .before .before .before .turn2 .ensures)
-    (k .before .before .turn3 .ensures)
-    (k .before .turn4 .ensures)
-    (k .turn5 .ensures)
-    (c .before .before .before .before .join .ensures)
-    (c .before .before .before .join2 .ensures)
-    (c .before .before .join3 .ensures)
-    (c .before .join4 .ensures)
+    (turn1 .turn .ensures)
+    (turn2 .turn2 .ensures)
+    (turn3 .turn3 .ensures)
+    (turn4 .turn4 .ensures)
+    (turn5 .turn5 .ensures)
+    (first .join .ensures)
+    (second .join2 .ensures)
+    (third .join3 .ensures)
+    (fourth .join4 .ensures)
     (c .join5 .ensures)
 
 pub turns-of-five-spec : {M : Type 1} → statement M

@@ -26,7 +26,8 @@ returns-2 : tie.Need-returns-2
 unfolding withIsland
 returns-2 c = let a = c .before .before .args in
     let len : length (a .track .islands) ≡ 5 = search (needs, counted) in
-    ap (λ (l : List Island). record { islands = l }) (sym (set-out (a .track .islands) (a .number) (a .island) (omega arith)))
+    ap (λ (l : List Island). record { islands = l })
+    (sym (set-out (a .track .islands) (a .number) (a .island) (omega arith)))
 
 pub with-island-spec : {M : Type 1} → statement M
 with-island-spec = tie.close (tie.spec mul-islands array-set-from-islands returns returns-2)

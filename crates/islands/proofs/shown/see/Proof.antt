@@ -6,10 +6,14 @@ use Rattle.islands.proofs.shown.see.Statement.{statement}
 use Rattle.islands.proofs.shown.see.Tie as tie
 
 returns : tie.Need-returns
-returns c = let a = c .before .before .args in seen-free (a .timer) (a .warning) (a .island) (not-true (a .island .occupied) (c .if1 .taken))
+returns c = let a = c .before .before .args in
+    seen-free (a .timer) (a .warning) (a .island) (not-true (a .island .occupied) (c .if1 .taken))
 
 returns-2 : tie.Need-returns-2
-returns-2 c = let a = c .before .before .before .before .before .before .args in seen-occupied (a .timer) (a .warning) (a .island) (not-false (a .island .occupied) (c .before .before .before .before .if1 .left))
+returns-2 c =
+    let tested = c .before .before .before .before in
+    let a = tested .before .before .args in
+    seen-occupied (a .timer) (a .warning) (a .island) (not-false (a .island .occupied) (tested .if1 .left))
 
 pub see-spec : {M : Type 1} → statement M
 see-spec = tie.close (tie.spec returns returns-2)

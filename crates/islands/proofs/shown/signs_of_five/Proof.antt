@@ -21,14 +21,20 @@ see-requires-5 : tie.Need-see-requires-5
 see-requires-5 c κs = search needs
 
 returns : tie.Need-returns
-returns c = let k = c .before .before .before .before .before .before .before .before .before .before .before .before .before .before .before .before .before .before .before .before in
-    let a = k .before .before .before .before .before .args in
+returns c =
+    let half-read = c .before .before .before .before .before .before .before .before .before .before in
+    let fifth = half-read .before .before .before .before .before .before .before .before .before .before in
+    let fourth = fifth .before in
+    let third = fourth .before in
+    let second = third .before in
+    let first = second .before in
+    let a = first .before .args in
     signs-of-seen (a .c) (a .i0) (a .i1) (a .i2) (a .i3) (a .i4) _ _ _ _ _
-    (k .before .before .before .before .see .ensures)
-    (k .before .before .before .see2 .ensures)
-    (k .before .before .see3 .ensures)
-    (k .before .see4 .ensures)
-    (k .see5 .ensures)
+    (first .see .ensures)
+    (second .see2 .ensures)
+    (third .see3 .ensures)
+    (fourth .see4 .ensures)
+    (fifth .see5 .ensures)
 
 pub signs-of-five-spec : {M : Type 1} → statement M
 signs-of-five-spec =

@@ -27,8 +27,13 @@ hold-set-requires c κs = search needs
 
 returns : tie.Need-returns
 unfolding acted
-returns c = let a = c .before .before .before .before .before .args in
-    let island = named (detectorNow true) (a .station) (a .report) _ _ _ (c .before .before .before .before .track-at .ensures) (c .before .before .before .detector-now .ensures) (c .before .before .with-named .ensures) in
+returns c =
+    let placed = c .before .before in
+    let changed = placed .before in
+    let found = changed .before in
+    let given = found .before .args in
+    let island = named (detectorNow true) (given .station) (given .report) _ _ _ (found .track-at .ensures)
+    (changed .detector-now .ensures) (placed .with-named .ensures) in
     c .hold-set .ensures ∙ ap holdSet (c .before .with-fault .ensures ∙ ap (λ (s : Station). withFault s true) island)
 
 pub failed-spec : {M : Type 1} → statement M

@@ -21,8 +21,14 @@ hold-set-requires c κs = search needs
 
 returns : tie.Need-returns
 unfolding acted
-returns c = let a = c .before .before .before .before .args in
-    c .hold-set .ensures ∙ ap holdSet (named (freeNow) (a .station) (a .report) _ _ _ (c .before .before .before .track-at .ensures) (c .before .before .free-now .ensures) (c .before .with-named .ensures))
+returns c =
+    let placed = c .before in
+    let changed = placed .before in
+    let found = changed .before in
+    let given = found .before .args in
+    let island = named freeNow (given .station) (given .report) _ _ _ (found .track-at .ensures)
+    (changed .free-now .ensures) (placed .with-named .ensures) in
+    c .hold-set .ensures ∙ ap holdSet island
 
 pub freed-spec : {M : Type 1} → statement M
 freed-spec =

@@ -19,7 +19,8 @@ hold-set-requires c κs = search needs
 
 returns : tie.Need-returns
 unfolding acted
-returns c = c .hold-set .ensures ∙ ap holdSet (c .before .with-hold .ensures ∙ ap (λ (s : Station). withHold s 0) (c .before .before .with-fault .ensures))
+returns c = c .hold-set .ensures ∙ ap holdSet (c .before .with-hold .ensures
+    ∙ ap (λ (s : Station). withHold s 0) (c .before .before .with-fault .ensures))
 
 pub normalised-spec : {M : Type 1} → statement M
 normalised-spec =

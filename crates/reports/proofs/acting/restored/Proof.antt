@@ -22,8 +22,14 @@ hold-set-requires c κs = search needs
 
 returns : tie.Need-returns
 unfolding acted
-returns c = let a = c .before .before .before .before .args in
-    c .hold-set .ensures ∙ ap holdSet (named (detectorNow false) (a .station) (a .report) _ _ _ (c .before .before .before .track-at .ensures) (c .before .before .detector-now .ensures) (c .before .with-named .ensures))
+returns c =
+    let placed = c .before in
+    let changed = placed .before in
+    let found = changed .before in
+    let given = found .before .args in
+    let island = named (detectorNow false) (given .station) (given .report) _ _ _ (found .track-at .ensures)
+    (changed .detector-now .ensures) (placed .with-named .ensures) in
+    c .hold-set .ensures ∙ ap holdSet island
 
 pub restored-spec : {M : Type 1} → statement M
 restored-spec =

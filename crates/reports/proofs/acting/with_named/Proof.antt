@@ -13,7 +13,8 @@ with-track-requires : tie.Need-with-track-requires
 with-track-requires c κs = search needs
 
 returns : tie.Need-returns
-returns c = let a = c .before .before .args in c .with-track .ensures ∙ ap (withTrack (a .station) (a .report .a)) (c .before .with-island .ensures)
+returns c = let a = c .before .before .args in
+    c .with-track .ensures ∙ ap (withTrack (a .station) (a .report .a)) (c .before .with-island .ensures)
 
 pub with-named-spec : {M : Type 1} → statement M
 with-named-spec = tie.close (tie.spec with-island-requires with-track-requires returns)

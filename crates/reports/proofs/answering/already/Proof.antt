@@ -25,7 +25,8 @@ unfolding kindOf
 returns-4 c = sym (ap (λ (k : ℕ). already (kindOf k) (c .before .before .args .island)) (c .before .match .keys4))
 
 returns-5 : tie.Need-returns-5
-returns-5 c = never-already (c .before .args .island) (c .before .args .kind) (c .match .rest .0 .0 .0 .1) (c .match .rest .0 .0 .1) (c .match .rest .0 .1) (c .match .rest .1)
+returns-5 c = never-already (c .before .args .island) (c .before .args .kind) (c .match .rest .0 .0 .0 .1)
+    (c .match .rest .0 .0 .1) (c .match .rest .0 .1) (c .match .rest .1)
 
 pub already-spec : {M : Type 1} → statement M
 already-spec = tie.close (tie.spec returns returns-2 returns-3 returns-4 returns-5)

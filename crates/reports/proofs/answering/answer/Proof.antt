@@ -18,23 +18,35 @@ form-answer-requires c κs = search needs
 
 returns-2 : tie.Need-returns-2
 unfolding answerOf
-returns-2 c = group-passes _ _ _ _ (c .before .before .before .settings-answer .ensures) (c .before .before .if1 .left) (group-refuses _ _ _ (c .before .form-answer .ensures) (c .if2 .taken))
+returns-2 c =
+    let set = c .before .before in
+    group-passes _ _ _ _ (set .before .settings-answer .ensures) (set .if1 .left)
+    (group-refuses _ _ _ (c .before .form-answer .ensures) (c .if2 .taken))
 
 place-answer-requires : tie.Need-place-answer-requires
 place-answer-requires c κs = search needs
 
 returns-3 : tie.Need-returns-3
 unfolding answerOf
-returns-3 c = group-passes _ _ _ _ (c .before .before .before .before .before .settings-answer .ensures) (c .before .before .before .before .if1 .left)
-    (group-passes _ _ _ _ (c .before .before .before .form-answer .ensures) (c .before .before .if2 .left) (group-refuses _ _ _ (c .before .place-answer .ensures) (c .if3 .taken)))
+returns-3 c =
+    let formed = c .before .before in
+    let set = formed .before .before in
+    group-passes _ _ _ _ (set .before .settings-answer .ensures) (set .if1 .left)
+    (group-passes _ _ _ _ (formed .before .form-answer .ensures) (formed .if2 .left)
+    (group-refuses _ _ _ (c .before .place-answer .ensures) (c .if3 .taken)))
 
 state-answer-requires : tie.Need-state-answer-requires
 state-answer-requires c κs = search needs
 
 returns-4 : tie.Need-returns-4
 unfolding answerOf
-returns-4 c = group-passes _ _ _ _ (c .before .before .before .before .before .before .settings-answer .ensures) (c .before .before .before .before .before .if1 .left)
-    (group-passes _ _ _ _ (c .before .before .before .before .form-answer .ensures) (c .before .before .before .if2 .left) (group-passes _ _ _ _ (c .before .before .place-answer .ensures) (c .before .if3 .left) (c .state-answer .ensures)))
+returns-4 c =
+    let placed = c .before in
+    let formed = placed .before .before in
+    let set = formed .before .before in
+    group-passes _ _ _ _ (set .before .settings-answer .ensures) (set .if1 .left)
+    (group-passes _ _ _ _ (formed .before .form-answer .ensures) (formed .if2 .left)
+    (group-passes _ _ _ _ (placed .before .place-answer .ensures) (placed .if3 .left) (c .state-answer .ensures)))
 
 pub answer-spec : {M : Type 1} → statement M
 answer-spec =

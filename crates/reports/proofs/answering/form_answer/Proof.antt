@@ -1,12 +1,14 @@
 -- `form_answer`: its two tests in their order.
 -- Assumes nothing.
-use mathlib.Core.Path.{sym, ap, _∙_}
-use mathlib.Core.Bool.{Bool, not, _||_}
+use mathlib.Core.Path.{_≡_, refl, sym, ap, _∙_}
+use mathlib.Core.Bool.{Bool, false, not, _||_}
 use lib.Dec.{eqb}
-use mathlib.Core.Path.{refl}
 use Rattle.chains.proofs.Chains.{passes, refuses}
 use Rattle.reports.proofs.answering.form_answer.Statement.{statement}
-use Rattle.rules.specs.Answers.{formAnswer}
+use Rattle.rules.specs.Answers.{formAnswer, wrongFields}
+use Rattle.rules.specs.Kinds.{kindOf}
+use Rattle.rules.specs.Words.{within}
+use Rattle.rules.specs.declared.Report.{Report}
 use borrow.Author.Needs.{needs}
 use Rattle.reports.proofs.answering.form_answer.Tie as tie
 
@@ -20,17 +22,28 @@ returns c = refuses _ _ _ (ap not (sym (c .before .known .ensures)) ∙ c .if1 .
 wrong-fields-requires : tie.Need-wrong-fields-requires
 wrong-fields-requires c κs = search needs
 
+-- the kind is known, and the test of the other fields is the definition's
+module _ (c : tie.After-wrong-fields) where
+  abbrev tested : tie.Else1
+  tested = c .before .before
+
+  abbrev r : Report
+  r = tested .before .before .args .report
+
+  is-known : not (within 1 7 (r .kind)) ≡ false
+  is-known = ap not (sym (tested .before .known .ensures)) ∙ tested .if1 .left
+
+  fields : (not (eqb (r .spare) 0) || wrongFields (kindOf (r .kind)) r)
+      ≡ (not (eqb (r .spare) 0) || c .wrong-fields .result)
+  fields = ap (λ (b : Bool). not (eqb (r .spare) 0) || b) (sym (c .wrong-fields .ensures))
+
 returns-2 : tie.Need-returns-2
 unfolding formAnswer
-returns-2 c = let r = c .before .before .before .before .before .args .report in
-    passes _ _ _ _ (ap not (sym (c .before .before .before .before .known .ensures)) ∙ c .before .before .before .if1 .left)
-    (refuses _ _ _ (ap (λ (b : Bool). not (eqb (r .spare) 0) || b) (sym (c .before .wrong-fields .ensures)) ∙ c .if2 .taken))
+returns-2 c = passes _ _ _ _ (is-known (c .before)) (refuses _ _ _ (fields (c .before) ∙ c .if2 .taken))
 
 returns-3 : tie.Need-returns-3
 unfolding formAnswer
-returns-3 c = let r = c .before .before .before .before .before .args .report in
-    passes _ _ _ _ (ap not (sym (c .before .before .before .before .known .ensures)) ∙ c .before .before .before .if1 .left)
-    (passes _ _ _ _ (ap (λ (b : Bool). not (eqb (r .spare) 0) || b) (sym (c .before .wrong-fields .ensures)) ∙ c .if2 .left) refl)
+returns-3 c = passes _ _ _ _ (is-known (c .before)) (passes _ _ _ _ (fields (c .before) ∙ c .if2 .left) refl)
 
 pub form-answer-spec : {M : Type 1} → statement M
 form-answer-spec =

@@ -39,11 +39,19 @@ digit-requires-9 c κs = search needs
 
 returns : tie.Need-returns
 returns c =
-    let sixth = c .before .before .before in
-    let third = sixth .before .before .before in
-    let first = third .before .before in
+    let eighth = c .before in
+    let seventh = eighth .before in
+    let sixth = seventh .before in
+    let fifth = sixth .before in
+    let fourth = fifth .before in
+    let third = fourth .before in
+    let second = third .before in
+    let first = second .before in
     let low = ap (λ x. zeroOrOne (eqb (x % 2) 1)) (sym (div-one (first .before .args .outputs))) in
-    λ i. (first .digit .ensures ∙ low) i ∷ third .before .digit2 .ensures i ∷ third .digit3 .ensures i ∷ sixth .before .before .digit4 .ensures i ∷ sixth .before .digit5 .ensures i ∷ sixth .digit6 .ensures i ∷ c .before .before .digit7 .ensures i ∷ c .before .digit8 .ensures i ∷ c .digit9 .ensures i ∷ 32 ∷ []
+    λ i. (first .digit .ensures ∙ low) i ∷ second .digit2 .ensures i ∷ third .digit3 .ensures i
+    ∷ fourth .digit4 .ensures i
+    ∷ fifth .digit5 .ensures i ∷ sixth .digit6 .ensures i ∷ seventh .digit7 .ensures i ∷ eighth .digit8 .ensures i
+    ∷ c .digit9 .ensures i ∷ 32 ∷ []
 
 pub output-column-spec : {M : Type 1} → statement M
 output-column-spec =

@@ -6,6 +6,10 @@ use Rattle.sheet.proofs.lines.refusal_line.Statement.{statement}
 use Rattle.sheet.proofs.lines.refusal_line.Tie as tie
 use Rattle.text.proofs.Placing.{written-as}
 
+-- what was given, from where the answer is spelled
+abbrev start : tie.After-number-text → tie.Start
+start c = c .before .before .before
+
 number-text-requires : tie.Need-number-text-requires
 number-text-requires c κs = search needs
 
@@ -36,7 +40,7 @@ same-length c = search needs
 returns : tie.Need-returns
 returns c =
     let other = c .before .before .before .before .before .before .before .before .before in
-    let given = other .before .before .before .before .args in
+    let given = start (other .before) .args in
     written-as (given .out .now)
     (refusal (given .answer) (given .entry) (other .if1 .taken) (other .before .number-text .ensures .1))
     (c .before .before .in-a-row .ensures)
@@ -73,14 +77,15 @@ same-length-2 c = search needs
 
 returns-2 : tie.Need-returns-2
 returns-2 c =
-    let named = c .before .before .before .before .before .before .before .before .before in
+    let written = c .before .before in
+    let named = written .before .before .before .before .before .before .before in
     let same = named .before .before in
-    let given = same .before .before .before .before .args in
+    let given = start (same .before) .args in
     written-as (given .out .now)
     (naming (given .answer) (given .entry) (same .if1 .left)
     (same .before .number-text .ensures .1)
     (named .number-text2 .ensures .1))
-    (c .before .before .in-a-row2 .ensures)
+    (written .in-a-row2 .ensures)
 
 pub refusal-line-spec : {M : Type 1} → statement M
 refusal-line-spec =

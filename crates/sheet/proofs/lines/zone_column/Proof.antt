@@ -40,9 +40,14 @@ digit-requires-5 c κs = search needs
 
 returns : tie.Need-returns
 returns c =
-    let start = c .before .before .before .before in
-    let zones = start .before .args .t1 in
-    (λ i. 32 ∷ start .digit .ensures i ∷ c .before .before .before .digit2 .ensures i ∷ c .before .before .digit3 .ensures i ∷ c .before .digit4 .ensures i ∷ c .digit5 .ensures i ∷ 32 ∷ [])
+    let fourth = c .before in
+    let third = fourth .before in
+    let second = third .before in
+    let first = second .before in
+    let zones = first .before .args .t1 in
+    (λ i.
+    32 ∷ first .digit .ensures i ∷ second .digit2 .ensures i ∷ third .digit3 .ensures i ∷ fourth .digit4 .ensures i
+    ∷ c .digit5 .ensures i ∷ 32 ∷ [])
     ∙ ap (λ l. space ++ zoneText l ++ space) (sym (listed 0 zones 5 (search needs)))
 
 pub zone-column-spec : {M : Type 1} → statement M

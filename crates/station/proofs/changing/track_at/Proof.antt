@@ -19,7 +19,9 @@ array-copy-out-result c = search needs
 
 returns : tie.Need-returns
 unfolding trackAt
-returns c = let a = c .before .before .before .args in
+returns c =
+    let tested = c .before in
+    let a = tested .before .before .args in
     let len : length (a .station .tracks) ≡ 4 = search (needs, counted) in
     let below : a .number < length (a .station .tracks) = omega arith in
     getD-same (a .station .tracks) (a .number) (record { islands = [] }) freeTrack below
@@ -29,7 +31,9 @@ free-track-requires c κs = search needs
 
 returns-2 : tie.Need-returns-2
 unfolding trackAt
-returns-2 c = let a = c .before .before .before .args in
+returns-2 c =
+    let tested = c .before in
+    let a = tested .before .before .args in
     let len : length (a .station .tracks) ≡ 4 = search (needs, counted) in
     let past : length (a .station .tracks) ≤ a .number = omega arith in
     c .free-track .ensures ∙ sym (List·getD-eq-default (a .station .tracks) freeTrack past)

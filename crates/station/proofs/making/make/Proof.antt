@@ -12,13 +12,15 @@ fresh-station-requires : tie.Need-fresh-station-requires
 fresh-station-requires c κs = search needs
 
 returns : tie.Need-returns
-returns c = made-of _ _ _ (c .before .before .settings-answer .ensures) (c .before .if1 .taken) (c .fresh-station .ensures)
+returns c =
+    made-of _ _ _ (c .before .before .settings-answer .ensures) (c .before .if1 .taken) (c .fresh-station .ensures)
 
 least-station-requires : tie.Need-least-station-requires
 least-station-requires c κs = search needs
 
 returns-2 : tie.Need-returns-2
-returns-2 c = made-least _ _ _ (c .before .before .settings-answer .ensures) (c .before .if1 .left) (c .least-station .ensures)
+returns-2 c =
+    made-least _ _ _ (c .before .before .settings-answer .ensures) (c .before .if1 .left) (c .least-station .ensures)
 
 pub make-spec : {M : Type 1} → statement M
 make-spec =

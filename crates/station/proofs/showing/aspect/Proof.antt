@@ -1,5 +1,5 @@
--- `aspect`: both tests that put the station out of service are one; a hold above 0 is told before the tracks are looked over; otherwise the lines, over
--- what `look_over` saw.
+-- `aspect`: both tests that put the station out of service are one; a hold above 0 is told before the tracks are looked
+-- over; otherwise the lines, over what `look_over` saw.
 -- Assumes nothing.
 use Rattle.station.proofs.ShownLaws.{holding-on, in-service, out-of-service}
 use borrow.Author.Needs.{needs}
@@ -13,7 +13,9 @@ returns : tie.Need-returns
 returns c = out-of-service _ _ (c .before .before .within-limits .ensures) (c .if1 .taken)
 
 returns-2 : tie.Need-returns-2
-returns-2 c = holding-on _ _ (c .before .before .before .before .within-limits .ensures) (c .before .before .if1 .left) (c .if2 .taken)
+returns-2 c =
+    let tested = c .before .before in
+    holding-on _ _ (tested .before .before .within-limits .ensures) (tested .if1 .left) (c .if2 .taken)
 
 look-over-requires : tie.Need-look-over-requires
 look-over-requires c κs = search needs
@@ -26,9 +28,11 @@ lines-requires c κs = search needs
 
 returns-3 : tie.Need-returns-3
 returns-3 c =
-    let told = c .before .before .before .before in
+    let surveyed = c .before .before in
+    let told = surveyed .before .before in
     let tested = told .before .before in
-    in-service _ _ (tested .before .before .within-limits .ensures) _ _ _ (tested .if1 .left) (told .if2 .left) (c .before .before .look-over .ensures) (c .before .risk-in .ensures)
+    in-service _ _ (tested .before .before .within-limits .ensures) _ _ _ (tested .if1 .left) (told .if2 .left)
+    (surveyed .look-over .ensures) (c .before .risk-in .ensures)
     (c .lines .ensures)
 
 pub aspect-spec : {M : Type 1} → statement M

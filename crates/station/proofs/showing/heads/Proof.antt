@@ -35,7 +35,8 @@ unfolding headsOf
 returns c = let k = c .before .before .before in
     let s = k .before .before .args .station in
     let len : length (s .conditions) ≡ 2 = search needs in
-    let e : k .outputs .result ≡ outputsOf (aspectOf s) = k .outputs .ensures ∙ ap outputsOf (k .before .aspect .ensures) in
+    let e : k .outputs .result ≡ outputsOf (aspectOf s) =
+    k .outputs .ensures ∙ ap outputsOf (k .before .aspect .ensures) in
     (λ i. c .before .head .ensures i ∷ c .head2 .ensures i ∷ [])
     ∙ ap (λ (o : ℕ). map (headOutputs o) (tabulate 2 (λ n. getD (s .conditions) n 0))) e
     ∙ ap (map (headOutputs (outputsOf (aspectOf s)))) (sym (listed 0 (s .conditions) 2 len))

@@ -18,11 +18,15 @@ returns-3 c = simp (c .before .before .if1 .left, c .before .if2 .left, c .if3 .
 
 returns-4 : tie.Need-returns-4
 unfolding _if_then_
-returns-4 c = simp (c .before .before .before .if1 .left, c .before .before .if2 .left, c .before .if3 .left, c .if4 .taken)
+returns-4 c =
+    let second = c .before .before in
+    simp (second .before .if1 .left, second .if2 .left, c .before .if3 .left, c .if4 .taken)
 
 returns-5 : tie.Need-returns-5
 unfolding _if_then_
-returns-5 c = simp (c .before .before .before .if1 .left, c .before .before .if2 .left, c .before .if3 .left, c .if4 .left)
+returns-5 c =
+    let second = c .before .before in
+    simp (second .before .if1 .left, second .if2 .left, c .before .if3 .left, c .if4 .left)
 
 pub lines-spec : {M : Type 1} → statement M
 lines-spec = tie.close (tie.spec returns returns-2 returns-3 returns-4 returns-5)

@@ -39,12 +39,17 @@ loop-less c = search needs
 
 loop-again : tie.Need-loop-again Inv-loop μ-loop
 loop-again c =
-    let given = c .before .before .before .before .before .args in
+    let turn = c .before .before .before in
+    let given = turn .before .before .args in
     let len : length (given .t2) ≡ 4 = search (needs, counted) in
-    (search needs, occupied-more (given .t2) _ _ _ (omega arith) (c .before .before .before .loop .inv .1) (c .occupied-too .ensures))
+    (search needs, occupied-more (given .t2) _ _ _ (omega arith) (turn .loop .inv .1) (c .occupied-too .ensures))
 
 returns : tie.Need-returns Inv-loop μ-loop
-returns c = let a = c .before .before .before .args in occupied-all (a .t2) (a .settings .tracks) (c .before .loop .j) _ (search (needs, counted)) (omega arith) (c .before .loop .inv .1)
+returns c =
+    let turn = c .before in
+    let given = turn .before .before .args in
+    occupied-all (given .t2) (given .settings .tracks) (turn .loop .j) _ (search (needs, counted)) (omega arith)
+    (turn .loop .inv .1)
 
 pub occupied-zones-spec : {M : Type 1} → statement M
 occupied-zones-spec =

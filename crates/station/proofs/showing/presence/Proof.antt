@@ -24,9 +24,13 @@ present-requires-4 c κs = search needs
 
 returns : tie.Need-returns
 unfolding presenceOf
-returns c = let k = c .before .before .before in
-    rw (sym (k .before .before .within-limits .ensures) ∙ k .before .if1 .taken)
-    (λ i. k .present .ensures i ∷ c .before .before .present2 .ensures i ∷ c .before .present3 .ensures i ∷ c .present4 .ensures i ∷ [])
+returns c =
+    let third = c .before in
+    let second = third .before in
+    let first = second .before in
+    rw (sym (first .before .before .within-limits .ensures) ∙ first .before .if1 .taken)
+    (λ i. first .present .ensures i ∷ second .present2 .ensures i ∷ third .present3 .ensures i
+    ∷ c .present4 .ensures i ∷ [])
 
 returns-2 : tie.Need-returns-2
 unfolding presenceOf

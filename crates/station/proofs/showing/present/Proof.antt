@@ -17,9 +17,12 @@ signs-of-requires c κs = search needs
 
 returns : tie.Need-returns
 unfolding signsOf
-returns c = let a = c .before .before .before .before .args in
+returns c =
+    let signed = c .before .before in
+    let found = signed .before in
+    let a = found .before .args in
     ap (λ (g : Signs). ltb (a .number) (a .station .settings .tracks) && g .present)
-    (c .before .before .signs-of .ensures ∙ ap (signsOf (a .station .settings)) (c .before .before .before .track-at .ensures))
+    (signed .signs-of .ensures ∙ ap (signsOf (a .station .settings)) (found .track-at .ensures))
 
 pub present-spec : {M : Type 1} → statement M
 present-spec = tie.close (tie.spec track-at-requires signs-of-requires returns)

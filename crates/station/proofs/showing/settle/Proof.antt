@@ -22,7 +22,13 @@ first-line-requires : tie.Need-first-line-requires
 first-line-requires c κs = search needs
 
 returns : tie.Need-returns
-returns c = settled-is _ _ _ _ _ _ _ (c .before .before .before .before .before .before .within-limits .ensures) refl (c .before .before .before .look-over .ensures) (c .before .before .risk-in .ensures) (c .before .held-up .ensures) (c .first-line .ensures)
+returns c =
+    let held = c .before in
+    let risked = held .before in
+    let surveyed = risked .before in
+    let limited = surveyed .before .before .before in
+    settled-is _ _ _ _ _ _ _ (limited .within-limits .ensures) refl (surveyed .look-over .ensures)
+    (risked .risk-in .ensures) (held .held-up .ensures) (c .first-line .ensures)
 
 pub settle-spec : {M : Type 1} → statement M
 settle-spec =

@@ -47,15 +47,18 @@ digit-requires-5 c κs = search needs
 returns : tie.Need-returns
 unfolding zonesOf
 returns c =
-    let first = c .before .before .before .before in
+    let fourth = c .before in
+    let third = fourth .before in
+    let second = third .before in
+    let first = second .before in
     let found = first .before in
     let zone = zone-digit _ _ (found .occupied-zones .ensures) in
     rw (sym (found .before .before .within-limits .ensures) ∙ found .before .if1 .taken)
     (λ i.
     zone 0 _ (first .digit .ensures) i
-    ∷ zone 1 _ (c .before .before .before .digit2 .ensures) i
-    ∷ zone 2 _ (c .before .before .digit3 .ensures) i
-    ∷ zone 3 _ (c .before .digit4 .ensures) i
+    ∷ zone 1 _ (second .digit2 .ensures) i
+    ∷ zone 2 _ (third .digit3 .ensures) i
+    ∷ zone 3 _ (fourth .digit4 .ensures) i
     ∷ zone 4 _ (c .digit5 .ensures) i
     ∷ [])
 

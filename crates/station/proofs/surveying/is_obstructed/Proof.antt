@@ -17,7 +17,8 @@ use native.Mathlib.Omega.{arith}
 use Rattle.station.proofs.surveying.is_obstructed.Tie as tie
 
 abbrev Inv-loop : tie.InvT-loop
-Inv-loop live tracks occupied₀ failed₀ j₀ occupied failed j = (j ≤ live) × ((occupied ≡ any someOccupied (take j tracks)) × (failed ≡ any someFailed (take j tracks)))
+Inv-loop live tracks occupied₀ failed₀ j₀ occupied failed j =
+    (j ≤ live) × ((occupied ≡ any someOccupied (take j tracks)) × (failed ≡ any someFailed (take j tracks)))
 
 abbrev μ-loop : tie.MeasureT-loop
 μ-loop live tracks occupied₀ failed₀ j₀ occupied failed j = live - j
@@ -46,23 +47,34 @@ add-j c = search needs
 loop-less : tie.Need-loop-less Inv-loop μ-loop
 loop-less c = search needs
 
+-- what was given, from the head of the loop
+abbrev start : tie.At-loop Inv-loop μ-loop → tie.Start Inv-loop μ-loop
+start c = c .before .before .before
+
 loop-again : tie.Need-loop-again Inv-loop μ-loop
-loop-again c = let k = c .before .before .before .before in
-    let l = k .before .before .before .args .station .tracks in
-    let len : length l ≡ 4 = search (needs, counted) in (
+loop-again c =
+    let turn = c .before .before .before .before in
+    let l = start turn .args .station .tracks in
+    let len : length l ≡ 4 = search (needs, counted) in
+    let inv = turn .loop .inv .1 in
+    let occupied = any-more someOccupied l (turn .loop .j) (record { islands = [] }) (omega arith) in
+    let failed = any-more someFailed l (turn .loop .j) (record { islands = [] }) (omega arith) in (
       search needs,
       (
-        ap₂ _||_ (k .loop .inv .1 .0) (c .before .some-occupied .ensures) ∙ sym (any-more someOccupied l (k .loop .j) (record { islands = [] }) (omega arith)),
-        ap₂ _||_ (k .loop .inv .1 .1) (c .some-failed .ensures) ∙ sym (any-more someFailed l (k .loop .j) (record { islands = [] }) (omega arith)),
+        ap₂ _||_ (inv .0) (c .before .some-occupied .ensures) ∙ sym occupied,
+        ap₂ _||_ (inv .1) (c .some-failed .ensures) ∙ sym failed,
       ),
     )
 
 returns : tie.Need-returns Inv-loop μ-loop
 unfolding obstructed
-returns c = let s = c .before .before .before .before .args .station in
+returns c =
+    let turn = c .before in
+    let s = start turn .args .station in
     let len : length (s .tracks) ≡ 4 = search (needs, counted) in
-    let all = take-least (s .tracks) (c .before .loop .j) (s .settings .tracks) 4 len (omega arith) in
-    ap₂ _||_ (c .before .loop .inv .1 .0) (c .before .loop .inv .1 .1) ∙ ap (λ (l : List Track). any someOccupied l || any someFailed l) all
+    let all = take-least (s .tracks) (turn .loop .j) (s .settings .tracks) 4 len (omega arith) in
+    let inv = turn .loop .inv .1 in
+    ap₂ _||_ (inv .0) (inv .1) ∙ ap (λ (l : List Track). any someOccupied l || any someFailed l) all
 
 pub is-obstructed-spec : {M : Type 1} → statement M
 is-obstructed-spec =

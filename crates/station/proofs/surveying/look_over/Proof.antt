@@ -16,7 +16,8 @@ use Rattle.station.proofs.surveying.look_over.Tie as tie
 
 abbrev Inv-loop : tie.InvT-loop
 Inv-loop settings tracks live fresh₀ present₀ near₀ ahead₀ held₀ j₀ fresh present near ahead held j =
-    (j ≤ live) × ((present ≤ j) × (record { fresh = fresh; present = present; near = near; ahead = ahead; held = held } ≡ surveyOf settings (take j tracks)))
+    (j ≤ live) × ((present ≤ j) × (record { fresh = fresh; present = present; near = near; ahead = ahead; held = held }
+    ≡ surveyOf settings (take j tracks)))
 
 abbrev μ-loop : tie.MeasureT-loop
 μ-loop settings tracks live fresh₀ present₀ near₀ ahead₀ held₀ j₀ fresh present near ahead held j =
@@ -51,21 +52,27 @@ loop-less : tie.Need-loop-less Inv-loop μ-loop
 loop-less c = search needs
 
 loop-again : tie.Need-loop-again Inv-loop μ-loop
-loop-again c = let k = c .before .before .before .before .before in
-    let a = k .before .before .before .before .before .args in
+loop-again c =
+    let signed = c .before .before .before .before .before in
+    let turn = signed .before .before .before in
+    let a = turn .before .before .args in
     let len : length (a .t2) ≡ 4 = search (needs, counted) in (
       search needs,
       (
-        omega (arith, bool-byte-small (k .signs-of .result .present)),
-        survey-more (a .settings) (a .t2) (k .before .before .before .loop .j) (record { islands = [] }) _ (k .signs-of .result) (omega arith) (k .before .before .before .loop .inv .1 .1)
-            (k .signs-of .ensures),
+        omega (arith, bool-byte-small (signed .signs-of .result .present)),
+        survey-more (a .settings) (a .t2) (turn .loop .j) (record { islands = [] }) _ (signed .signs-of .result)
+            (omega arith) (turn .loop .inv .1 .1)
+            (signed .signs-of .ensures),
       ),
     )
 
 returns : tie.Need-returns Inv-loop μ-loop
-returns c = let a = c .before .before .before .args in
+returns c =
+    let turn = c .before in
+    let a = turn .before .before .args in
     let len : length (a .t2) ≡ 4 = search (needs, counted) in
-    c .before .loop .inv .1 .1 ∙ ap (surveyOf (a .settings)) (take-least (a .t2) (c .before .loop .j) (a .settings .tracks) 4 len (omega arith))
+    turn .loop .inv .1 .1
+    ∙ ap (surveyOf (a .settings)) (take-least (a .t2) (turn .loop .j) (a .settings .tracks) 4 len (omega arith))
 
 pub look-over-spec : {M : Type 1} → statement M
 look-over-spec =
