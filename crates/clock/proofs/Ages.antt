@@ -54,8 +54,8 @@ unfolding later older
 later-is zero i = sym (start i)
 later-is (suc n) i =
     ap older (later-is n i)
-    ∙ ap (λ (a : ℕ). record { occupied = i .occupied; leaving = i .leaving; failed = i .failed; age = a }) (step
-    (i .occupied) (aged n (i .age)) (i .age))
+    ∙ ap (λ (a : ℕ). record { occupied = i .occupied; leaving = i .leaving; failed = i .failed; age = a })
+    (step (i .occupied) (aged n (i .age)) (i .age))
 
 aged-some : (n a : ℕ) → aged (suc n) a ≡ min 65535 (a + suc n)
 aged-some zero a = omega arith

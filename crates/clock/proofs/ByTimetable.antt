@@ -95,8 +95,9 @@ module _ (s : Station) (r : Timetable) where
         risk-next : greatestRisk (allOlder (stationAt n)) ≡ riskAt r (suc n)
         risk-next = ap (λ (l : List Track). greatestRisk (withTracks s l)) (older-then n) ∙ risk-then (suc n) h
 
-        hold-next : cond (greatestRisk (allOlder (stationAt n))) (c .t4) (lowered (greatestRisk (stationAt n))
-            (holdAt n)) ≡ holdAt (suc n)
+        hold-next :
+            cond (greatestRisk (allOlder (stationAt n))) (c .t4) (lowered (greatestRisk (stationAt n)) (holdAt n))
+            ≡ holdAt (suc n)
         hold-next = ap₂ (λ (after before : Bool). cond after (c .t4) (lowered before (holdAt n))) risk-next
             (risk-then n (omega arith))
 

@@ -94,15 +94,16 @@ abbrev pub occupiedBy : List Track → List Bool
 occupiedBy l = map (λ k. any (λ t. islandAt t k .occupied) l) (0 ∷ 1 ∷ 2 ∷ 3 ∷ 4 ∷ [])
 
 pub occupied-more : (l : List Track) (j : ℕ) (zones next : List Bool) → j < length l → zones ≡ occupiedBy (take j l)
-    → next ≡ map (λ k.
-    getD zones k false || islandAt (getD l j (record { islands = [] })) k .occupied) (0 ∷ 1 ∷ 2 ∷ 3 ∷ 4 ∷ [])
+    → next ≡ map (λ k. getD zones k false || islandAt (getD l j (record { islands = [] })) k .occupied)
+    (0 ∷ 1 ∷ 2 ∷ 3 ∷ 4 ∷ [])
     → next ≡ occupiedBy (take (j + 1) l)
 occupied-more l j zones next h e en = en ∙ ap (λ (z : List Bool).
     map (λ k. getD z k false || islandAt (getD l j (record { islands = [] })) k .occupied) (0 ∷ 1 ∷ 2 ∷ 3 ∷ 4 ∷ [])) e
     ∙ λ i. more 0 i ∷ more 1 i ∷ more 2 i ∷ more 3 i ∷ more 4 i ∷ []
   where
-    more : (k : ℕ) → any (λ t. islandAt t k .occupied) (take j l) || islandAt (getD l j
-        (record { islands = [] })) k .occupied ≡ any (λ t. islandAt t k .occupied) (take (j + 1) l)
+    more : (k : ℕ)
+        → any (λ t. islandAt t k .occupied) (take j l) || islandAt (getD l j (record { islands = [] })) k .occupied
+        ≡ any (λ t. islandAt t k .occupied) (take (j + 1) l)
     more k = sym (any-more (λ t. islandAt t k .occupied) l j (record { islands = [] }) h)
 
 pub occupied-all : (l : List Track) (n j : ℕ) (zones : List Bool) → length l ≡ 4 → j ≡ min n 4

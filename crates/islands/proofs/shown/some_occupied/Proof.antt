@@ -27,7 +27,8 @@ element-copy-out-result-5 c = search needs
 
 returns : tie.Need-returns
 unfolding someOccupied
-returns c = let t = c .before .args .track in let len : length (t .islands) ≡ 5 = search (needs, counted) in
+returns c = let t = c .before .args .track in
+    let len : length (t .islands) ≡ 5 = search (needs, counted) in
     any-of-five (λ (i : Island). i .occupied) t len
 
 pub some-occupied-spec : {M : Type 1} → statement M

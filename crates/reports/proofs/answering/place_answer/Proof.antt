@@ -35,40 +35,43 @@ module _ (c : tie.After-names-island) where
   no-island = ap (λ (b : Bool). b && ltb 4 (r .b)) (sym (c .names-island .ensures))
 
 -- where the kind is asked, and where the first test is left
-abbrev asked : tie.Else1 → tie.After-names-island
-asked c = c .before .before .before
+abbrev asked : tie.After-struct-known2 → tie.After-names-island
+asked c = c .before .before
 
-abbrev first-test : tie.Else2 → tie.Else1
-first-test c = c .before .before .before
+abbrev first-test : tie.After-struct-known4 → tie.Else1
+first-test c = c .before .before
 
 returns : tie.Need-returns
 unfolding placeAnswer
-returns c = refuses _ _ _ (no-track (c .before .before .before) ∙ c .if1 .taken)
+returns c = refuses _ _ _ (no-track (asked (c .before)) ∙ c .if1 .taken)
 
 returns-2 : tie.Need-returns-2
 unfolding placeAnswer
 returns-2 c =
-    let tested = c .before .before .before in
-    passes _ _ _ _ (no-track (asked tested) ∙ tested .if1 .left)
-    (refuses _ _ _ (no-head (asked tested) ∙ c .if2 .taken))
+    let tested = first-test (c .before) in
+    let asking = asked (tested .before) in
+    passes _ _ _ _ (no-track asking ∙ tested .if1 .left)
+    (refuses _ _ _ (no-head asking ∙ c .if2 .taken))
 
 returns-3 : tie.Need-returns-3
 unfolding placeAnswer
 returns-3 c =
     let headed = c .before .before in
-    let tested = first-test headed in
-    passes _ _ _ _ (no-track (asked tested) ∙ tested .if1 .left)
-    (passes _ _ _ _ (no-head (asked tested) ∙ headed .if2 .left)
-    (refuses _ _ _ (no-island (asked tested) ∙ c .if3 .taken)))
+    let tested = first-test (headed .before) in
+    let asking = asked (tested .before) in
+    passes _ _ _ _ (no-track asking ∙ tested .if1 .left)
+    (passes _ _ _ _ (no-head asking ∙ headed .if2 .left)
+    (refuses _ _ _ (no-island asking ∙ c .if3 .taken)))
 
 returns-4 : tie.Need-returns-4
 unfolding placeAnswer
 returns-4 c =
     let headed = c .before .before in
-    let tested = first-test headed in
-    passes _ _ _ _ (no-track (asked tested) ∙ tested .if1 .left)
-    (passes _ _ _ _ (no-head (asked tested) ∙ headed .if2 .left)
-    (passes _ _ _ _ (no-island (asked tested) ∙ c .if3 .left) refl))
+    let tested = first-test (headed .before) in
+    let asking = asked (tested .before) in
+    passes _ _ _ _ (no-track asking ∙ tested .if1 .left)
+    (passes _ _ _ _ (no-head asking ∙ headed .if2 .left)
+    (passes _ _ _ _ (no-island asking ∙ c .if3 .left) refl))
 
 pub place-answer-spec : {M : Type 1} → statement M
 place-answer-spec =
