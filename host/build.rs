@@ -1,6 +1,7 @@
-//! Finds the archive of the proved library for the target that cargo compiles for, and says in one line what is wrong where there is
-//! none: a linker would say it in many, and not what to do.
+//! Finds the archive of the proved library for the target that cargo compiles for, and says in one line what is wrong where there
+//! is none: a linker would say it in many, and not what to do.
 
+use std::io::ErrorKind;
 use std::path::{Path, PathBuf};
 use std::process::exit;
 use std::{env, fs};
@@ -50,20 +51,40 @@ fn processor_of(archive: &[u8]) -> Option<u16> {
     Some(u16::from_le_bytes([number[0], number[1]]))
 }
 
-fn main() {
-    let Processor { folder, command, number } = processor();
+/// Whether an archive names this symbol: a whole name, and not the end or the start of a longer one.
+fn names(archive: &[u8], symbol: &[u8]) -> bool {
+    let part_of_a_name = |byte: &u8| byte.is_ascii_alphanumeric() || *byte == b'_';
+    archive.windows(symbol.len() + 2).any(|bytes| {
+        let (before, name, after) = (&bytes[0], &bytes[1..=symbol.len()], &bytes[symbol.len() + 1]);
+        name == symbol && *after == 0 && !part_of_a_name(before)
+    })
+}
+
+/// The folder that the environment names, or else the one in which the archive is made.
+fn folder(made_in: &str) -> PathBuf {
     println!("cargo:rerun-if-env-changed={FOLDER}");
-    let folder = env::var_os(FOLDER).map_or_else(|| Path::new(env!("CARGO_MANIFEST_DIR")).join(folder), PathBuf::from);
+    match env::var_os(FOLDER).filter(|named| !named.is_empty()).map(PathBuf::from) {
+        Some(named) if named.is_relative() => wrong(&format!("{FOLDER} is {}, and has to be a whole path", named.display())),
+        Some(named) => named,
+        None => Path::new(env!("CARGO_MANIFEST_DIR")).join(made_in),
+    }
+}
+
+fn main() {
+    let Processor { folder: made_in, command, number } = processor();
+    let folder = folder(made_in);
     let archive = folder.join("libexport.a");
     println!("cargo:rerun-if-changed={}", archive.display());
     let make = format!("make it by '{command}' in the repository's folder, or name the folder of one in {FOLDER}");
-    let Ok(bytes) = fs::read(&archive) else {
-        wrong(&format!("there is no {}: {make}", archive.display()));
+    let bytes = match fs::read(&archive) {
+        Ok(bytes) => bytes,
+        Err(error) if error.kind() == ErrorKind::NotFound => wrong(&format!("there is no {}: {make}", archive.display())),
+        Err(error) => wrong(&format!("{} cannot be read, {error}: {make}", archive.display())),
     };
     if processor_of(&bytes) != Some(number) {
         wrong(&format!("{} is not for {}: {make}", archive.display(), target("ARCH")));
     }
-    if !bytes.windows(LAYOUT.len()).any(|name| name == LAYOUT.as_bytes()) {
+    if !names(&bytes, LAYOUT.as_bytes()) {
         wrong(&format!("{} is of another layout than this package, without {LAYOUT}: {make}", archive.display()));
     }
     println!("cargo:rustc-link-search=native={}", folder.display());

@@ -5,8 +5,8 @@ use degvuurel::{Aspect, IslandNumber, Recorder, Refusal, Report, Settings, Track
 fn main() -> Result<(), Refusal> {
     let settings = Settings { tracks: 2, t1: 300, t2: 300, t3: 300, t4: 0, t5: 600 };
     let mut recorder = Recorder::start(settings)?;
-    recorder.append(Report::normalise())?.done()?;
-    recorder.append(Report::occupied(TrackNumber(0), IslandNumber::ADVANCE_2))?.done()?;
+    recorder.append(Report::normalise()).done()?;
+    recorder.append(Report::occupied(TrackNumber(0), IslandNumber::ADVANCE_2)).done()?;
     assert_eq!(recorder.station().aspect(), Aspect::Clearing);
 
     let register = recorder.register();

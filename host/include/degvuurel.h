@@ -1,5 +1,6 @@
 /* What a class 2-A platform crossing must show, from a library whose every function is proved. For C99 and later, and C++11 and
- * later. Link with target/staticlib/libexport.a, which `rt staticlib export` proves and builds; it needs no other library.
+ * later. Link with the archive libexport.a, which needs no other library: on x86-64 the one in target/staticlib/, which
+ * `rt staticlib export` proves and builds; on Arm the one in target/staticlib/aarch64/, by `tools/archive-for-arm`.
  *
  * Any numbers are taken, and what is wrong with them is answered by a number. This is what a caller keeps to:
  *
@@ -293,6 +294,11 @@ DEGVUUREL_SIZE(line, 8);
 /* The layout that this header is of: 1. Whoever includes the header names the function, so that an archive of another layout does
  * not link. */
 uint8_t degvuurel_layout_1(void);
+#if defined(__has_attribute)
+#if __has_attribute(retain)
+__attribute__((retain)) /* else a linker that is told to drop what nobody reads drops it */
+#endif
+#endif
 __attribute__((used)) static uint8_t (*const degvuurel_layout_needed)(void) = degvuurel_layout_1;
 
 /* A fresh station. Where the settings are refused with 8, one of the least settings. */
@@ -392,8 +398,9 @@ size_t degvuurel_refusal_line(uint8_t *out, size_t length, uint8_t answer, uint6
 struct degvuurel_message degvuurel_message_of(uint16_t number, struct degvuurel_station station);
 
 /* Writes a message as one JSON object at the start of the bytes, gives its length, and touches no byte past it;
- * DEGVUUREL_MESSAGE bytes are always enough. 16 where the aspect is above 5, the tracks are not 1 to 4, a digit is above 1, or one of a track that is not there is not
- * 0; then 12 where the text does not fit. Refused, nothing is written. The text is not ended by a 0. */
+ * DEGVUUREL_MESSAGE bytes are always enough. 16 where the aspect is above 5, the tracks are not 1 to 4, a digit is above 1, or one
+ * of a track that is not there is not 0; then 12 where the text does not fit. Refused, nothing is written. The text is not ended
+ * by a 0. */
 struct degvuurel_written degvuurel_write_message(struct degvuurel_message message, uint8_t *bytes, size_t length);
 
 /* Reads a message from any RFC 8259 text in UTF-8 of at most DEGVUUREL_MESSAGE_READ bytes, with lists and objects at most 8 deep:

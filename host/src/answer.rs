@@ -13,7 +13,7 @@ use std::fmt;
 /// assert_eq!(Answer::AlreadySo.to_string(), "occupied, free, failed or not failed already");
 /// assert_eq!(Answer::AlreadySo.done().unwrap_err().to_string(), "refused 6: occupied, free, failed or not failed already");
 /// ```
-#[must_use = "a report refused by 1 to 7 is entered too, and its answer says so"]
+#[must_use = "the answer says whether something was refused"]
 #[derive(Clone, Copy, Debug, PartialEq, Eq, Hash, PartialOrd, Ord)]
 #[repr(u8)]
 pub enum Answer {
@@ -90,6 +90,12 @@ impl Answer {
     /// The answer that the library gave. It is proved to give none above 16.
     pub(crate) fn given(number: u8) -> Answer {
         Answer::of(number).expect("the library answers 0 to 16")
+    }
+
+    /// Whether a report that is so answered has its row in a register: 0 to 7.
+    #[must_use]
+    pub fn is_entered(self) -> bool {
+        self <= Answer::NotClear
     }
 
     /// Nothing where it is [`Answer::Done`], else the refusal: for whoever takes a refused report for an error.

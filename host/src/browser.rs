@@ -6,15 +6,16 @@ use crate::entry::Entry;
 use crate::register::{read_or_refused, Register};
 use crate::structs::Station;
 
-/// A browser: a register and the row that it stands on. A move answers as stepping does, and a refused one keeps its place.
+/// A browser: a register and the row that it stands on. A move answers as stepping does, and a refused one keeps its place. Each
+/// move and each look replays the rows up to the one that it shows, so that what came later changes nothing.
 ///
 /// ```
 /// use degvuurel::{Aspect, IslandNumber, Recorder, Report, Settings, TrackNumber};
 ///
 /// # fn main() -> Result<(), degvuurel::Refusal> {
 /// let mut recorder = Recorder::start(Settings { tracks: 1, t1: 300, t2: 300, t3: 300, t4: 0, t5: 600 })?;
-/// recorder.append(Report::normalise())?.done()?;
-/// recorder.append(Report::occupied(TrackNumber(0), IslandNumber::CROSSING))?.done()?;
+/// recorder.append(Report::normalise()).done()?;
+/// recorder.append(Report::occupied(TrackNumber(0), IslandNumber::CROSSING)).done()?;
 ///
 /// let mut browser = recorder.register().browse();
 /// assert_eq!(browser.forward()?.aspect(), Aspect::Permitted);
@@ -25,19 +26,13 @@ use crate::structs::Station;
 /// # Ok(())
 /// # }
 /// ```
-#[derive(Clone, Copy, Debug, PartialEq, Eq)]
+#[derive(Clone, Debug, PartialEq, Eq)]
 pub struct Browser<'a> {
     register: Register<'a>,
     row: usize,
 }
 
 impl<'a> Browser<'a> {
-    /// A browser of any bytes, at row 0. Whether they are a register, each move and each look answers.
-    #[must_use]
-    pub fn open(register: Register<'a>) -> Browser<'a> {
-        Browser { register, row: 0 }
-    }
-
     /// The register that it holds.
     #[must_use]
     pub fn register(&self) -> Register<'a> {
@@ -110,9 +105,9 @@ impl<'a> Browser<'a> {
 }
 
 impl<'a> Register<'a> {
-    /// A browser of it, at row 0.
+    /// A browser of it, at row 0. Whether these bytes are a register, each move and each look answers.
     #[must_use]
     pub fn browse(self) -> Browser<'a> {
-        Browser::open(self)
+        Browser { register: self, row: 0 }
     }
 }

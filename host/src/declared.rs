@@ -85,8 +85,8 @@ pub struct Recorded {
     pub count: usize,
 }
 
-/// What a line of a planner's text says: the word that it begins with, by its number, what is wrong with it, or 0, and its numbers in
-/// the fields of a report.
+/// What a line of a planner's text says: the word that it begins with, by its number, what is wrong with it, or 0, and its
+/// numbers in the fields of a report.
 #[repr(C)]
 pub struct Line {
     pub name: u8,

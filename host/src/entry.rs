@@ -13,7 +13,7 @@ use crate::structs::{Report, ENTRY, HEADER};
 ///
 /// # fn main() -> Result<(), degvuurel::Refusal> {
 /// let mut recorder = Recorder::start(Settings { tracks: 1, t1: 300, t2: 300, t3: 300, t4: 0, t5: 600 })?;
-/// recorder.append(Report::normalise())?.done()?;
+/// recorder.append(Report::normalise()).done()?;
 /// let entry = recorder.register().entry(1)?;
 /// assert_eq!((entry.report, entry.answer, entry.aspect), (Report::normalise(), Answer::Done, Aspect::Permitted));
 /// # Ok(())

@@ -11,8 +11,8 @@
 //!
 //! # fn main() -> Result<(), Box<dyn std::error::Error>> {
 //! let mut recorder = Recorder::start(Settings { tracks: 2, t1: 300, t2: 300, t3: 300, t4: 0, t5: 600 })?;
-//! recorder.append(Report::normalise())?.done()?;
-//! recorder.append("occupied 0 4".parse()?)?.done()?;
+//! recorder.append(Report::normalise()).done()?;
+//! recorder.append("occupied 0 4".parse()?).done()?;
 //! assert_eq!(recorder.station().aspect(), Aspect::Clearing);
 //!
 //! // Stepping back shows the station as it was, whatever came later.
@@ -23,8 +23,8 @@
 //! # }
 //! ```
 //!
-//! **A report that is refused by 1 to 7 is no error here**: it is entered, and [`Recorder::append`] gives its [`Answer`]. Whoever takes it
-//! for an error says `.done()?`.
+//! **A report that is refused by 1 to 7 is entered all the same**, and [`Recorder::append`] gives its [`Answer`]. Whoever takes
+//! that for an error says `.done()?`.
 
 #![warn(missing_docs)]
 #![warn(clippy::missing_errors_doc, clippy::must_use_candidate)]

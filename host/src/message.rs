@@ -15,8 +15,9 @@ impl Message {
         unsafe { declared::degvuurel_message_of(number, *station) }
     }
 
-    /// Reads any RFC 8259 text in UTF-8 of at most [`MESSAGE_READ`](crate::MESSAGE_READ) bytes, with lists and objects at most 8 deep. The first member of
-    /// each of our names in the outermost object counts, names compared after escapes; other members are skipped.
+    /// Reads any RFC 8259 text in UTF-8 of at most [`MESSAGE_READ`](crate::MESSAGE_READ) bytes, with lists and objects at most 8
+    /// deep. The first member of each of our names in the outermost object counts, names compared after escapes; other members
+    /// are skipped.
     ///
     /// # Errors
     ///

@@ -1,5 +1,5 @@
-//! The numbers that a report names a place by. Each is a type of its own, so that a track is never taken for an island. Any number can
-//! be named: one that there is not is answered by a number when the report is taken.
+//! The numbers that a report names a place by. Each is a type of its own, so that a track is never taken for an island. Any
+//! number can be named: one that there is not is answered by a number when the report is taken.
 
 use std::fmt;
 

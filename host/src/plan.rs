@@ -1,7 +1,8 @@
 //! A planner's text: settings and reports in words, a line each.
 
-use crate::answer::NoSuchNumber;
+use crate::answer::{Answer, NoSuchNumber};
 use crate::declared::{self, RegisterBytes, RowLines};
+use crate::entry::Entry;
 use crate::register::Register;
 use crate::structs::{ENTRY, HEADER, MOST, MOST_BYTES};
 use std::error::Error;
@@ -109,6 +110,8 @@ impl fmt::Display for Fault {
     }
 }
 
+impl Error for Fault {}
+
 /// A text that is not recorded: its first fault, and the line, counted from 1. What is missing at the end has none.
 #[derive(Clone, Copy, Debug, PartialEq, Eq, Hash)]
 pub struct Misread {
@@ -156,6 +159,18 @@ impl Plan {
         self.lines.len()
     }
 
+    /// Every row's entry, row 1 first. Nothing is replayed: what is recorded reads back.
+    #[must_use]
+    pub fn entries(&self) -> impl DoubleEndedIterator<Item = Entry> + ExactSizeIterator + '_ {
+        Entry::all(&self.bytes)
+    }
+
+    /// The reports that are refused, and entered all the same: the row, its line and its entry.
+    pub fn refused(&self) -> impl Iterator<Item = (usize, usize, Entry)> + '_ {
+        let rows = (1..).zip(&self.lines).zip(self.entries());
+        rows.map(|((row, &line), entry)| (row, line, entry)).filter(|(_, _, entry)| entry.answer != Answer::Done)
+    }
+
     /// The register's bytes, to keep or to go on with.
     #[must_use]
     pub fn into_bytes(self) -> Vec<u8> {
@@ -163,7 +178,7 @@ impl Plan {
     }
 }
 
-/// Records a planner's text. A report that is refused by 1 to 7 is entered all the same.
+/// Records a planner's text. A report that is refused by 1 to 7 is entered all the same: [`Plan::refused`] tells them.
 ///
 /// ```
 /// use degvuurel::{record, Fault};
@@ -172,6 +187,7 @@ impl Plan {
 /// let plan = record(text).expect("nothing is wrong with it");
 /// assert_eq!(plan.register().sheet().unwrap(), "entry zones outputs answer\n1 11111 100000000 0\n2 11110 010001000 0\n");
 /// assert_eq!(plan.line_of(2), Some(9));
+/// assert_eq!(plan.refused().count(), 0);
 ///
 /// let misread = record(b"tracks 2\nt1 300\nt2 300\nt3 300\nt4 0\nt5 600\n\nocupied 0 4\n").unwrap_err();
 /// assert_eq!((misread.fault, misread.line), (Fault::NotAName, Some(8)));

@@ -5,7 +5,8 @@ use crate::declared;
 use crate::structs::{Settings, Station};
 
 /// A register in lent bytes: exactly the filled ones. Any bytes can be looked at as one; whether they are, each function answers.
-/// Nothing is kept between calls, so a row shown is that row, whatever was shown before.
+/// Nothing is kept between calls, so a row shown is that row, whatever was shown before; and whatever shows a row replays the
+/// rows up to it.
 #[derive(Clone, Copy, Debug, PartialEq, Eq)]
 pub struct Register<'a> {
     bytes: &'a [u8],
@@ -41,7 +42,8 @@ impl<'a> Register<'a> {
         self.bytes
     }
 
-    /// The settings of the header. Bytes that are missing count as 0.
+    /// What stands in the header as settings, whatever these bytes are: neither its mark nor a limit is looked at. Bytes that are
+    /// missing count as 0. Of a register that was read they are the station's.
     #[must_use]
     pub fn settings(self) -> Settings {
         // SAFETY: the pointer and the length are one slice.
@@ -82,7 +84,7 @@ impl<'a> Register<'a> {
     ///
     /// # fn main() -> Result<(), degvuurel::Refusal> {
     /// let mut recorder = Recorder::start(Settings { tracks: 1, t1: 1, t2: 1, t3: 1, t4: 0, t5: 2 })?;
-    /// recorder.append(Report::normalise())?.done()?;
+    /// recorder.append(Report::normalise()).done()?;
     /// assert_eq!(recorder.register().entry_bytes(1)?, [7, 0, 0, 0, 0, 0, 0, 0]);
     /// assert_eq!(recorder.register().entry_bytes(0).unwrap_err().number(), 14);
     /// # Ok(())

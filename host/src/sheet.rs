@@ -18,9 +18,10 @@ fn text_of(bytes: &[u8]) -> &str {
 
 /// The refusal that the one line of a register tells which cannot be read: `refused 9`, or `refused 13 at 2`. A sheet tells none.
 fn refusal_in(text: &str) -> Option<Refusal> {
-    let numbers: Vec<usize> = text.strip_prefix("refused ")?.split_whitespace().filter_map(|word| word.parse().ok()).collect();
-    let answer = Answer::given(u8::try_from(*numbers.first()?).ok()?);
-    Some(Refusal::naming(answer, numbers.get(1).copied().unwrap_or(0)))
+    let mut words = text.strip_prefix("refused ")?.split_whitespace();
+    let mut number = || words.find_map(|word| word.parse::<usize>().ok());
+    let answer = number().and_then(|number| u8::try_from(number).ok()).expect("a printed refusal has its number");
+    Some(Refusal::naming(Answer::given(answer), number().unwrap_or(0)))
 }
 
 /// Writes the sheet of a register at the start of the text, and returns it: a row for each report.

@@ -17,7 +17,8 @@ impl Station {
         Answer::given(made.answer).done().map(|()| made.station)
     }
 
-    /// Takes a report, or refuses it and stays as it is.
+    /// Takes a report, or refuses it and stays as it is. There is no register here, so that a refused report is an error; see
+    /// [`Recorder::append`](crate::Recorder::append).
     ///
     /// # Errors
     ///

@@ -1,5 +1,5 @@
-//! What goes through the archive's door by value, field by field as in the Rattle source, and the sizes of what is lent. What can be
-//! done with each stands in a file of its own.
+//! What goes through the archive's door by value, field by field as in the Rattle source, and the sizes of what is lent. What can
+//! be done with each stands in a file of its own.
 
 /// The bytes of the header.
 pub const HEADER: usize = 16;
@@ -66,7 +66,7 @@ pub struct Track {
 }
 
 /// A station: a plain value, any of which can be handed to any function. One whose settings are outside their limits refuses every
-/// report by 8 and shows what cannot be trusted as taken.
+/// report by 8, and shows what is safe: out of service, both heads dark, every zone occupied and every track present.
 ///
 /// ```
 /// use degvuurel::{Answer, Aspect, IslandNumber, Report, Settings, Station, TrackNumber};

@@ -1,4 +1,5 @@
-//! Reports and settings in the planner's words, read by the proved library: [`Display`](std::fmt::Display) writes what is read here.
+//! Reports and settings in the planner's words, read by the proved library. What [`Display`](std::fmt::Display) writes of any
+//! report, and of settings within their limits, is read here as the same.
 
 use crate::declared;
 use crate::plan::{record, Fault, Misread};
@@ -7,10 +8,11 @@ use std::error::Error;
 use std::fmt;
 use std::str::FromStr;
 
-/// The last of the words that set something; after them come the kinds of report.
-const LAST_SETTING: u8 = 5;
+/// The first and the last of the words that are kinds of report; before them stand the settings.
+const FIRST_KIND: u8 = 6;
+const LAST_KIND: u8 = 13;
 
-/// No word at all: a blank line, or a comment.
+/// No word at all: a blank line, or a comment. A word that is none of these is a fault.
 const NO_WORD: u8 = 15;
 
 /// Why a line is no report.
@@ -39,7 +41,8 @@ impl fmt::Display for NotAReport {
 
 impl Error for NotAReport {}
 
-/// A line of a planner's text, with or without its line feed, that is a report.
+/// A line of a planner's text, with or without its line feed, that is a report. A byte order mark is for the start of a text, and
+/// is not taken here.
 ///
 /// ```
 /// use degvuurel::{Fault, IslandNumber, NotAReport, Report, TrackNumber};
@@ -60,9 +63,9 @@ impl FromStr for Report {
         let said = unsafe { declared::degvuurel_line_in(line.as_ptr(), line.len()) };
         match (Fault::given(said.fault), said.name) {
             (Some(fault), _) => Err(NotAReport::Misread(fault)),
-            (None, 0..=LAST_SETTING) => Err(NotAReport::Setting),
+            (None, FIRST_KIND..=LAST_KIND) => Ok(said.numbers),
             (None, NO_WORD) => Err(NotAReport::Nothing),
-            (None, _) => Ok(said.numbers),
+            (None, _) => Err(NotAReport::Setting),
         }
     }
 }
@@ -80,7 +83,7 @@ impl TryFrom<&str> for Report {
 pub enum NotSettings {
     /// It is not understood, or they are outside their limits.
     Misread(Misread),
-    /// Reports follow, the first of them on this line.
+    /// All of it is understood, and reports follow, the first of them on this line.
     Report(usize),
 }
 

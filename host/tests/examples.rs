@@ -40,14 +40,16 @@ sheet
 ";
 
 const EDITED: &str = "\
-row 1: done; permitted
-row 2: done; clearing
-row 3: occupied, free, failed or not failed already; clearing
-row 4: done; greatest risk
-not a setting, and not a kind of report
+row 1: permitted
+row 2: clearing
+row 3: clearing
+occupied 0 4: refused 6: occupied, free, failed or not failed already
+row 4: greatest risk
+ocupied 1 0: not a setting, and not a kind of report
 row 2 shows clearing
-refused 14: no such row
-row 3: done; greatest risk
+step 9: refused 14: no such row
+2 undone
+row 3: greatest risk
 entry zones outputs answer
 1 11111 100000000 0
 2 11110 010001000 0

@@ -160,8 +160,8 @@ fn the_numbers_are_those_of_the_rattle_sources() {
     assert!(text_of("../crates/screen/src/reading.rt").contains(&format!("const LONGEST: usize = {};", degvuurel::MESSAGE_READ)));
 }
 
-/// The layout that the archive's symbol counts. Where this differs, something that goes through the door has changed: then the number
-/// in `degvuurel_layout_1` is one more, everywhere that it stands, and the new layout is written down here.
+/// The layout that the archive's symbol counts. Where this differs, something that goes through the door has changed: then the
+/// number in `degvuurel_layout_1` is one more, everywhere that it stands, and the new layout is written down here.
 #[test]
 fn the_layout_is_the_one_that_is_counted() {
     let mut lines = layout_in_rust();

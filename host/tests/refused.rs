@@ -1,5 +1,6 @@
-//! What a refusal returns beside its number, which the wrapper does not hand on. Of making, reading and stepping: a fresh station of
-//! one track, with T1 to T4 equal to 1 and T5 to 2, and count 0. Of a text: zeros and no tracks. Of writing a message: length 0.
+//! What a refusal returns beside its number, which the wrapper does not hand on. Of making, reading and stepping: a fresh station
+//! of one track, with T1 to T4 equal to 1 and T5 to 2, and count 0. Of a text: zeros and no tracks. Of writing a message: length
+//! 0.
 
 include!("archive/declared.rs");
 

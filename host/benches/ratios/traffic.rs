@@ -112,7 +112,7 @@ pub fn everything(count: usize) -> Vec<Report> {
 pub fn register(settings: Settings, reports: &[Report]) -> Vec<u8> {
     let mut recorder = Recorder::start(settings).expect("the settings are good");
     for report in reports {
-        let _refused_too = recorder.append(*report).expect("there is room");
+        assert!(recorder.append(*report).is_entered(), "there is room");
     }
     recorder.into_bytes()
 }

@@ -1,5 +1,5 @@
-// Included by tests that call the archive itself. The declarations are the package's own file, which names its structs by this path,
-// so that it stands at the root of the test.
+// Included by tests that call the archive itself. The declarations are the package's own file, which names its structs by this
+// path, so that it stands at the root of the test.
 #[allow(dead_code)]
 #[path = "../../src/declared.rs"]
 mod declared;

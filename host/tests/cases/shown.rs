@@ -1,16 +1,13 @@
 //! What a case has typed of a register, from what the package gives.
 
-use degvuurel::{Answer, Plan, Refusal, Register, Station};
+use degvuurel::{Plan, Refusal, Register, Station};
 
 /// The refused reports with their lines, and how many there are.
 pub fn told(plan: &Plan) -> String {
     let (mut told, mut refused) = (String::new(), 0);
-    for (row, entry) in (1..).zip(plan.register().entries().expect("what is recorded can be read")) {
-        if entry.answer != Answer::Done {
-            let line = plan.line_of(row).expect("the row has a line");
-            told += &format!("line {line}: refused {}: {}; entered as row {row}\n", entry.answer.number(), entry.answer);
-            refused += 1;
-        }
+    for (row, line, entry) in plan.refused() {
+        told += &format!("line {line}: refused {}: {}; entered as row {row}\n", entry.answer.number(), entry.answer);
+        refused += 1;
     }
     let reports = if plan.count() == 1 { "report" } else { "reports" };
     told + &format!("{} {reports} entered, {refused} of them refused\n", plan.count())

@@ -71,8 +71,7 @@ pub fn append_both(filled: &mut Filled, k: usize, report: Report, bench: &mut Be
         let expected = Fields::default().byte(expected).station(&of_paper).shown(&of_paper).bytes(&papers);
         (call.report(values::report(report)), expected)
     })?;
-    let outcome = append(&mut filled.bytes, k, &mut filled.station, report);
-    let number = outcome.map_or_else(|refusal| refusal.number(), |answer| answer.number());
+    let number = append(&mut filled.bytes, k, &mut filled.station, report).number();
     same(format_args!("appending {report} at {k}, answer"), &number, &expected)?;
     same(format_args!("appending {report} at {k}, station"), &seen(&filled.station), &Seen(of_paper))?;
     same_bytes(format_args!("appending {report} at {k}"), &filled.bytes, &papers)
@@ -114,8 +113,8 @@ pub fn record(case: &Case, filled: &Filled) -> Result<(), String> {
         if k == half {
             recorder = Recorder::resume(recorder.into_bytes()).map_err(told)?;
         }
-        let answer = recorder.append(report).map_err(told)?;
-        same(format_args!("recorder, answer {k}"), &answer.number(), &filled.bytes[HEADER + ENTRY * k + 6])?;
+        let answer = recorder.append(report).number();
+        same(format_args!("recorder, answer {k}"), &answer, &filled.bytes[HEADER + ENTRY * k + 6])?;
     }
     same(format_args!("recorder, count"), &recorder.count(), &case.reports.len())?;
     same(format_args!("recorder, station"), &seen(recorder.station()), &seen(&filled.station))?;
@@ -125,9 +124,14 @@ pub fn record(case: &Case, filled: &Filled) -> Result<(), String> {
     same(format_args!("recorder, entries"), &rows, &papers.collect())?;
     // There is no such row, and it stays as it is.
     let whole = recorder.clone();
-    same(format_args!("recorder, answer to a row that is not there"), &answer(&recorder.undo(case.reports.len() + 1)), &14)?;
+    same(format_args!("recorder, answer to a row that is not there"), &answer(&recorder.undo_to(case.reports.len() + 1)), &14)?;
     same(format_args!("recorder, after a refused undo"), &recorder, &whole)?;
-    recorder.undo(half).map_err(told)?;
+    let of_row = |row: usize| recorder.entry(row).map(|entry| entry.report);
+    let ends = (of_row(0), of_row(half), of_row(half + 1), of_row(case.reports.len() + 1));
+    let judged = (None, half.checked_sub(1).map(|k| case.reports[k]), case.reports.get(half).copied(), None);
+    same(format_args!("recorder, entries of rows"), &ends, &judged)?;
+    let undone = recorder.undo_to(half).map_err(told)?;
+    same(format_args!("recorder, reports undone"), &undone.as_slice(), &&case.reports[half..])?;
     let papers = paper::step(&filled.bytes[..end], half);
     same(format_args!("recorder, station after undo"), &seen(recorder.station()), &Seen(papers.station))?;
     same_bytes(format_args!("recorder, after undo"), &recorder.into_bytes(), &filled.bytes[..HEADER + ENTRY * half])
