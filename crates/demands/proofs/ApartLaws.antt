@@ -1,5 +1,5 @@
--- Document 01, "The numbers it answers": what becomes of the station where a report is refused. "From islands to aspect": the lines, from what
--- they read.
+-- Document 01, "The numbers it answers": what becomes of the station where a report is refused. "From islands to
+-- aspect": the lines, from what they read.
 -- Assumes nothing.
 use Prim.Native.Nat.{ℕ}
 use mathlib.Core.Path.{_≡_}

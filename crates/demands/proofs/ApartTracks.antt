@@ -1,5 +1,6 @@
--- Document 01, "What the station is": tracks beyond the station's number are neither read nor changed. Not read: stations that agree below their number
--- show the same, answer the same and agree again after any report. Not changed: no report touches them, nor the settings.
+-- Document 01, "What the station is": tracks beyond the station's number are neither read nor changed. Not read:
+-- stations that agree below their number show the same, answer the same and agree again after any report. Not changed:
+-- no report touches them, nor the settings.
 -- Assumes nothing.
 use Prim.Native.Nat.{ℕ, zero, suc, _-_, _<_}
 use mathlib.Core.Path.{_≡_, refl, sym, ap, ap₂, subst, subst₂, _∙_}
@@ -16,14 +17,18 @@ use Rattle.demands.specs.Agree.{Agree}
 use Rattle.islands.proofs.Below.{changed-drop, changed-take}
 use Rattle.reports.proofs.Accepted.{Below, accepted-below, after-any, place-below}
 use Rattle.reports.proofs.Taking.{after-accepted}
-use Rattle.rules.specs.Answers.{already, answerOf, blocked, namesHead, namesIsland, placeAnswer, stateAnswer, stationAfter}
+use Rattle.rules.specs.Answers.{already, answerOf, blocked, namesHead, namesIsland}
+use Rattle.rules.specs.Answers.{placeAnswer, stateAnswer, stationAfter}
 use Rattle.rules.specs.Aspect.{aspectOf, greatestRisk, presenceOf, present, someFresh}
 use Rattle.rules.specs.Heads.{headOutputs, headsOf}
-use Rattle.rules.specs.Kinds.{Kind, clock, detectorFailed, detectorRestored, headCondition, islandFree, islandOccupied, kindOf, noKind, normalise}
+use Rattle.rules.specs.Kinds.{Kind, clock, detectorFailed, detectorRestored, headCondition}
+use Rattle.rules.specs.Kinds.{islandFree, islandOccupied, kindOf, noKind, normalise}
 use Rattle.rules.specs.Outputs.{outputsOf}
 use Rattle.rules.specs.Printer.{zonesOf}
-use Rattle.rules.specs.Reports.{acted, allOlder, detectorNow, faultLatched, freeNow, holdLowered, holdSet, late, namedIsland, namedTrack, occupiedNow, olderTrack, tick, ticks, withIsland, withNamed}
-use Rattle.rules.specs.Station.{beyond, freeTrack, islandAt, live, obstructed, settingsAnswer, someFailed, someOccupied, trackAt, withCondition, withFault, withHold, withTrack, withinLimits}
+use Rattle.rules.specs.Reports.{acted, allOlder, detectorNow, faultLatched, freeNow, holdLowered, holdSet, late}
+use Rattle.rules.specs.Reports.{namedIsland, namedTrack, occupiedNow, olderTrack, tick, ticks, withIsland, withNamed}
+use Rattle.rules.specs.Station.{beyond, freeTrack, islandAt, live, obstructed, settingsAnswer, someFailed, someOccupied}
+use Rattle.rules.specs.Station.{trackAt, withCondition, withFault, withHold, withTrack, withinLimits}
 use Rattle.rules.specs.Words.{any, count, _if_then_}
 use Rattle.rules.specs.declared.Island.{Island}
 use Rattle.rules.specs.declared.Report.{Report}
@@ -35,11 +40,14 @@ use Rattle.rules.specs.declared.Track.{Track}
 module _ {s t : Station} (e : Agree s t) where
   pub agree-risk : greatestRisk s ≡ greatestRisk t
   unfolding greatestRisk
-  agree-risk = λ i. any (someFresh (e .others i .settings)) (e .live i) && leb 2 (count (present (e .others i .settings)) (e .live i))
+  agree-risk =
+      λ i.
+      any (someFresh (e .others i .settings)) (e .live i) && leb 2 (count (present (e .others i .settings)) (e .live i))
 
   pub agree-aspect : aspectOf s ≡ aspectOf t
   unfolding aspectOf
-  agree-aspect = λ i. aspectIn (e .others i .settings) (e .live i) (e .others i .fault) (agree-risk i || ltb 0 (e .others i .hold))
+  agree-aspect =
+      λ i. aspectIn (e .others i .settings) (e .live i) (e .others i .fault) (agree-risk i || ltb 0 (e .others i .hold))
 
   pub agree-heads : headsOf s ≡ headsOf t
   unfolding headsOf
@@ -49,7 +57,8 @@ module _ {s t : Station} (e : Agree s t) where
   unfolding zonesOf
   agree-zones =
       λ i.
-      cond (withinLimits (e .others i .settings)) (map (λ k. cond (any (λ u. islandAt u k .occupied) (e .live i)) 0 1) (0 ∷ 1 ∷ 2 ∷ 3 ∷ 4 ∷ []))
+      cond (withinLimits (e .others i .settings))
+      (map (λ k. cond (any (λ u. islandAt u k .occupied) (e .live i)) 0 1) (0 ∷ 1 ∷ 2 ∷ 3 ∷ 4 ∷ []))
       (replicate 5 0)
 
   below-both : (a : ℕ) → a < s .settings .tracks → a < t .settings .tracks
@@ -64,18 +73,25 @@ module _ {s t : Station} (e : Agree s t) where
       ∙ getD-take (t .settings .tracks) (t .tracks) a freeTrack (below-both a h)
 
   same-presence : (a : ℕ)
-      → ltb a (s .settings .tracks) && present (s .settings) (trackAt s a) ≡ ltb a (t .settings .tracks) && present (t .settings) (trackAt t a)
-  same-presence a = go (ltb a (s .settings .tracks)) refl ∙ λ i. ltb a (e .others i .settings .tracks) && present (e .others i .settings) (trackAt t a)
+      → ltb a (s .settings .tracks) && present (s .settings) (trackAt s a)
+      ≡ ltb a (t .settings .tracks) && present (t .settings) (trackAt t a)
+  same-presence a =
+      go (ltb a (s .settings .tracks)) refl
+      ∙ λ i. ltb a (e .others i .settings .tracks) && present (e .others i .settings) (trackAt t a)
     where
       go : (b : Bool) → ltb a (s .settings .tracks) ≡ b
-          → ltb a (s .settings .tracks) && present (s .settings) (trackAt s a) ≡ ltb a (s .settings .tracks) && present (s .settings) (trackAt t a)
-      go true q = ap (λ (u : Track). ltb a (s .settings .tracks) && present (s .settings) u) (agree-track a (ltb-true a (s .settings .tracks) q))
+          → ltb a (s .settings .tracks) && present (s .settings) (trackAt s a)
+          ≡ ltb a (s .settings .tracks) && present (s .settings) (trackAt t a)
+      go true q =
+          ap (λ (u : Track). ltb a (s .settings .tracks) && present (s .settings) u)
+          (agree-track a (ltb-true a (s .settings .tracks) q))
       go false q = rw q
 
   pub agree-presence : presenceOf s ≡ presenceOf t
   unfolding presenceOf
   agree-presence =
-      λ i. cond (withinLimits (e .others i .settings)) (same-presence 0 i ∷ same-presence 1 i ∷ same-presence 2 i ∷ same-presence 3 i ∷ []) (replicate 4 true)
+      λ i. cond (withinLimits (e .others i .settings))
+      (same-presence 0 i ∷ same-presence 1 i ∷ same-presence 2 i ∷ same-presence 3 i ∷ []) (replicate 4 true)
 
   agree-island : (r : Report) → r .a < s .settings .tracks → namedIsland s r ≡ namedIsland t r
   agree-island r h = ap (λ (u : Track). islandAt u (r .b)) (agree-track (r .a) h)
@@ -113,12 +129,16 @@ module _ {s t : Station} (e : Agree s t) where
   agree-state : (r : Report) → placeAnswer s r ≡ 0 → stateAnswer s r ≡ stateAnswer t r
   unfolding stateAnswer
   agree-state r z =
-      λ i. 6 if agree-already r (kindOf (r .kind)) (place-below s r z) i then 7 if agree-blocked (kindOf (r .kind)) i then 0
+      λ i.
+      6 if agree-already r (kindOf (r .kind)) (place-below s r z) i then
+      7 if agree-blocked (kindOf (r .kind)) i then
+      0
 
   pub agree-answer : (r : Report) → answerOf s r ≡ answerOf t r
   unfolding answerOf
   agree-answer r =
-      same-order _ _ _ _ (λ i. settingsAnswer (e .others i .settings)) (λ _. same-order _ _ _ _ refl (λ _. same-order _ _ _ _ (agree-place r) (agree-state r)))
+      same-order _ _ _ _ (λ i. settingsAnswer (e .others i .settings))
+      (λ _. same-order _ _ _ _ refl (λ _. same-order _ _ _ _ (agree-place r) (agree-state r)))
 
 -- ---- what an accepted report does keeps the agreement
 
@@ -142,7 +162,8 @@ module _ {s t : Station} (e : Agree s t) where
         others = e .others;
         live =
             take-set-lt (s .settings .tracks) (s .tracks) (r .a) _ h
-            ∙ ap₂ (λ (l : List Track) (u : Track). set l (r .a) (withIsland u (r .b) (f u (r .b)))) (e .live) (agree-track e (r .a) h)
+            ∙ ap₂ (λ (l : List Track) (u : Track). set l (r .a) (withIsland u (r .b) (f u (r .b)))) (e .live)
+            (agree-track e (r .a) h)
             ∙ sym (take-set-lt (t .settings .tracks) (t .tracks) (r .a) _ (below-both e (r .a) h));
       }
 
@@ -152,7 +173,8 @@ module _ {s t : Station} (e : Agree s t) where
 
   agree-lowered : Agree (holdLowered s) (holdLowered t)
   unfolding holdLowered
-  agree-lowered = agree-hold (λ i. let hold = e .others i .hold in cond (not (agree-risk e i) && ltb 0 hold) (hold - 1) hold)
+  agree-lowered =
+      agree-hold (λ i. let hold = e .others i .hold in cond (not (agree-risk e i) && ltb 0 hold) (hold - 1) hold)
 
   agree-older : Agree (allOlder s) (allOlder t)
   unfolding allOlder
@@ -190,7 +212,8 @@ agree-after {s} {t} e r = go (ℕ-discrete (answerOf s r) 0)
   where
     go : Dec (answerOf s r ≡ 0) → Agree (stationAfter s r) (stationAfter t r)
     go (yes z) =
-        subst₂ Agree (sym (after-accepted s r z)) (sym (after-accepted t r (sym (agree-answer e r) ∙ z))) (agree-acted e r (kindOf (r .kind)) (accepted-below s r z))
+        subst₂ Agree (sym (after-accepted s r z)) (sym (after-accepted t r (sym (agree-answer e r) ∙ z)))
+        (agree-acted e r (kindOf (r .kind)) (accepted-below s r z))
     go (no z) = subst₂ Agree (sym (refused-keeps s r z)) (sym (refused-keeps t r (λ q. z (agree-answer e r ∙ q)))) e
 
 -- ---- the settings stay, and so do the tracks from the number on
@@ -206,7 +229,8 @@ stays-ticks : (s : Station) (n : ℕ) → Stays s (ticks n s)
 unfolding ticks tick holdSet faultLatched allOlder holdLowered
 stays-ticks s zero = (refl, refl)
 stays-ticks s (suc n) =
-    let u = ticks n s in (stays-ticks s n .0, changed-drop olderTrack (u .settings .tracks) (u .tracks) ∙ stays-ticks s n .1)
+    let u = ticks n s in
+    (stays-ticks s n .0, changed-drop olderTrack (u .settings .tracks) (u .tracks) ∙ stays-ticks s n .1)
 
 stays-acted : (s : Station) (r : Report) (k : Kind) → Below k s r → Stays s (acted k s r)
 unfolding acted holdSet withCondition

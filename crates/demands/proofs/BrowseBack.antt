@@ -1,7 +1,8 @@
--- Document 01, "The register": "The bench's browser is a reader that holds the lent register and a place in it. It starts at row 0; a move answers as
--- stepping does, and a refused one keeps its place." On any bytes: a refused move changes nothing, one that is done stands on its row, no move changes
--- the register held, and there is no row before the first or after the last. And demand 2's "stepping back to any row gives the station as it was after
--- that row", through the browser: whatever moves came before, a move to a row does so.
+-- Document 01, "The register": "The bench's browser is a reader that holds the lent register and a place in it. It
+-- starts at row 0; a move answers as stepping does, and a refused one keeps its place." On any bytes: a refused move
+-- changes nothing, one that is done stands on its row, no move changes the register held, and there is no row before
+-- the first or after the last. And demand 2's "stepping back to any row gives the station as it was after that row",
+-- through the browser: whatever moves came before, a move to a row does so.
 -- Assumes nothing.
 use Prim.Native.Nat.{ℕ, suc, _≤_, _<_}
 use native.Mathlib.Omega.{arith}
@@ -28,7 +29,8 @@ use Rattle.rules.specs.declared.Reading.{Reading}
 
 pub refused-stays : (w : Browser) (k : ℕ) → (stepAnswer (bytesOf w) k ≡ 0 → ⊥) → movedTo w k ≡ w
 unfolding movedTo
-refused-stays w k h = λ i. record { register = w .register; row = where-refused (stepAnswer (bytesOf w) k) k (w .row) h i }
+refused-stays w k h =
+    λ i. record { register = w .register; row = where-refused (stepAnswer (bytesOf w) k) k (w .row) h i }
 
 pub done-stands : (w : Browser) (k : ℕ) → stepAnswer (bytesOf w) k ≡ 0 → movedTo w k .row ≡ k
 unfolding movedTo
@@ -43,13 +45,17 @@ same-register w (m ∷ ms) = same-register (moved w m) ms
 none-above : (b : List ℕ) (k : ℕ) → registerAnswer b ≡ 0 → entries b < k → stepAnswer b k ≡ 14
 unfolding stepOf readingOf
 none-above b k z h =
-    sym (ap (λ (r : Reading). r .answer) (step-above b (registerAnswer b) refl z k (entries b) refl (lt-ltb (entries b) k h) _ refl))
+    sym (ap (λ (r : Reading). r .answer)
+    (step-above b (registerAnswer b) refl z k (entries b) refl (lt-ltb (entries b) k h) _ refl))
 
-pub back-from-first : (w : Browser) → w .row ≡ 0 → registerAnswer (bytesOf w) ≡ 0 → stepAnswer (bytesOf w) (rowOf w back) ≡ 14
+pub back-from-first : (w : Browser) → w .row ≡ 0 → registerAnswer (bytesOf w) ≡ 0
+    → stepAnswer (bytesOf w) (rowOf w back) ≡ 14
 back-from-first w e z =
-    ap (λ (k : ℕ). stepAnswer (bytesOf w) (before k)) e ∙ none-above (bytesOf w) 8191 z (omega (arith, sized (bytesOf w) z .1))
+    ap (λ (k : ℕ). stepAnswer (bytesOf w) (before k)) e
+    ∙ none-above (bytesOf w) 8191 z (omega (arith, sized (bytesOf w) z .1))
 
-pub forward-from-last : (w : Browser) → w .row ≡ entries (bytesOf w) → registerAnswer (bytesOf w) ≡ 0 → stepAnswer (bytesOf w) (rowOf w forward) ≡ 14
+pub forward-from-last : (w : Browser) → w .row ≡ entries (bytesOf w) → registerAnswer (bytesOf w) ≡ 0
+    → stepAnswer (bytesOf w) (rowOf w forward) ≡ 14
 forward-from-last w e z = none-above (bytesOf w) (suc (w .row)) z (omega (arith, e))
 
 -- ---- a browser on a register that was started and filled
@@ -68,7 +74,8 @@ module _ (f : Filling) (n : ℕ) (room : Room f n) where
     no-such-row : (k : ℕ) → n < k → stepAnswer (bytesOf w) k ≡ 14
     no-such-row k h =
         let done = read-whole (register f n) (ap (λ (r : Reading). r .answer) (read-back f n room .whole)) .0 in
-        ap (λ (b : List ℕ). stepAnswer b k) same ∙ none-above (register f n) k done (omega (arith, filled-entries f n room))
+        ap (λ (b : List ℕ). stepAnswer b k) same
+        ∙ none-above (register f n) k done (omega (arith, filled-entries f n room))
 
     stays-here : (k : ℕ) → n < k → movedTo w k ≡ w
     stays-here k h = refused-stays w k (λ e. omega (arith, no-such-row k h))

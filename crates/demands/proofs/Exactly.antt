@@ -1,5 +1,5 @@
--- Tests in an order, with the table's words for each: a number is answered exactly when its case holds and none before it does. And what follows of
--- any answer that is given so: it is one of the numbers, and there is no other.
+-- Tests in an order, with the table's words for each: a number is answered exactly when its case holds and none before
+-- it does. And what follows of any answer that is given so: it is one of the numbers, and there is no other.
 -- Assumes nothing.
 use Prim.Native.Nat.{ℕ, _≤_, _<_}
 use native.Mathlib.Decide.{ℕ-discrete}
@@ -11,7 +11,8 @@ use mathlib.Core.List.{List, [], _∷_, _++_}
 use borrow.Author.Tests.{eq-eqb, eqb-false, eqb-true, leb-false, leb-true, ltb-false, ltb-true, not-false, not-true}
 use lib.Dec.{eqb, leb, ltb}
 use Rattle.chains.proofs.Chains.{both, either, neither}
-use Rattle.demands.specs.Exactly.{CaseOf, Cases, GivenAfter, GivenExactly, numbersOf, oneOf, otherwise, _when_then_}
+use Rattle.demands.specs.Exactly.{CaseOf, Cases, GivenAfter, GivenExactly, numbersOf}
+use Rattle.demands.specs.Exactly.{oneOf, otherwise, _when_then_}
 use Rattle.rules.specs.Words.{_if_then_, _▷_}
 
 -- ---- a test of the definitions, and the case that it tells
@@ -31,7 +32,11 @@ abbrev pub equal : (x n : ℕ) → Tells (x ≡ n)
 equal x n = record { test = eqb x n; so = eqb-true x n; not-so = eqb-false x n }
 
 abbrev pub unequal : (x n : ℕ) → Tells (x ≡ n → ⊥)
-unequal x n = record { test = not (eqb x n); so = λ e. eqb-false x n (not-true _ e); not-so = λ e h. h (eqb-true x n (not-false _ e)) }
+unequal x n = record {
+  test = not (eqb x n);
+  so = λ e. eqb-false x n (not-true _ e);
+  not-so = λ e h. h (eqb-true x n (not-false _ e));
+}
 
 abbrev pub at-most : (x n : ℕ) → Tells (x ≤ n)
 at-most x n = record { test = leb x n; so = leb-true x n; not-so = λ e h. let least = leb-false x n e in omega arith }
@@ -109,7 +114,8 @@ one-after : (answer : ℕ) (cases : Cases) (noneBefore : Type 0) → noneBefore 
 one-after answer (n when case then rest) noneBefore h g =
     go (ℕ-discrete answer n) (λ unlike. one-after answer rest _ (h, λ c. unlike (g .0 .1 (h, c))) (g .1))
   where
-    go : Dec (answer ≡ n) → ((answer ≡ n → ⊥) → oneOf (numbersOf rest) answer ≡ true) → oneOf (n ∷ numbersOf rest) answer ≡ true
+    go : Dec (answer ≡ n) → ((answer ≡ n → ⊥) → oneOf (numbersOf rest) answer ≡ true)
+        → oneOf (n ∷ numbersOf rest) answer ≡ true
     go (yes e) later = ap (λ (t : Bool). t || oneOf (numbersOf rest) answer) (eq-eqb answer n e)
     go (no e) later = ap (λ (t : Bool). eqb answer n || t) (later e) ∙ or-true (eqb answer n)
 one-after answer (otherwise n) noneBefore h g = ap (λ (t : Bool). t || false) (eq-eqb answer n (g .1 h))
@@ -118,7 +124,8 @@ pub one-of : (cases : Cases) (answer : ℕ) → GivenExactly cases answer → on
 one-of cases answer g = one-after answer cases Unit tt g
 
 -- and is given in its stated case only;
-case-after : (answer : ℕ) (cases : Cases) (noneBefore : Type 0) → GivenAfter noneBefore cases answer → CaseOf answer cases
+case-after : (answer : ℕ) (cases : Cases) (noneBefore : Type 0) → GivenAfter noneBefore cases answer
+    → CaseOf answer cases
 case-after answer (n when case then rest) noneBefore g = go (eqb n answer) refl (case-after answer rest _ (g .1))
   where
     go : (t : Bool) → eqb n answer ≡ t → CaseOf answer rest → cond t case (CaseOf answer rest)
@@ -135,14 +142,16 @@ same-after : (answer answer′ : ℕ) (cases : Cases) (noneBefore : Type 0) → 
     → GivenAfter noneBefore cases answer′
     → answer ≡ answer′
 same-after answer answer′ (n when case then rest) noneBefore h g g′ =
-    go (ℕ-discrete answer n) (λ unlike. same-after answer answer′ rest _ (h, λ c. unlike (g .0 .1 (h, c))) (g .1) (g′ .1))
+    go (ℕ-discrete answer n)
+    (λ unlike. same-after answer answer′ rest _ (h, λ c. unlike (g .0 .1 (h, c))) (g .1) (g′ .1))
   where
     go : Dec (answer ≡ n) → ((answer ≡ n → ⊥) → answer ≡ answer′) → answer ≡ answer′
     go (yes e) later = e ∙ sym (g′ .0 .1 (g .0 .0 e))
     go (no e) later = later e
 same-after answer answer′ (otherwise n) noneBefore h g g′ = g .1 h ∙ sym (g′ .1 h)
 
-pub only-one : (cases : Cases) (answer answer′ : ℕ) → GivenExactly cases answer → GivenExactly cases answer′ → answer ≡ answer′
+pub only-one : (cases : Cases) (answer answer′ : ℕ) → GivenExactly cases answer → GivenExactly cases answer′
+    → answer ≡ answer′
 only-one cases answer answer′ = same-after answer answer′ cases Unit tt
 
 -- ---- the answer of tests in an order is given so
@@ -160,9 +169,12 @@ noZero (r ∷ rest) = not (eqb (r .number) 0) && noZero rest
 past : (answer : ℕ) (cases : Cases) (noneBefore : Type 0) → (noneBefore → ⊥) → oneOf (numbersOf cases) answer ≡ false
     → GivenAfter noneBefore cases answer
 past answer (n when case then rest) noneBefore held e =
-    let h = neither _ _ e in
-    ((λ q. absurd (eqb-false answer n (h .0) q), λ p. absurd (held (p .0))), past answer rest _ (λ p. held (p .0)) (h .1))
-past answer (otherwise n) noneBefore held e = (λ q. absurd (eqb-false answer n (neither _ _ e .0) q), λ p. absurd (held p))
+    let h = neither _ _ e in (
+      (λ q. absurd (eqb-false answer n (h .0) q), λ p. absurd (held (p .0))),
+      past answer rest _ (λ p. held (p .0)) (h .1),
+    )
+past answer (otherwise n) noneBefore held e =
+    (λ q. absurd (eqb-false answer n (neither _ _ e .0) q), λ p. absurd (held p))
 
 -- and where none has held so far, the first that does gives the answer
 from-here : (l : List Row) (noneBefore : Type 0) → noneBefore → apart (numbersOf (casesIn l)) ≡ true
@@ -184,11 +196,14 @@ from-here (r ∷ rest) noneBefore h a =
     go : (t : Bool) → r .tells .test ≡ t
         → ((r .case → ⊥) → GivenAfter (noneBefore × (r .case → ⊥)) later (firstOf rest))
         → GivenAfter noneBefore (casesIn (r ∷ rest)) (cond t (r .number) (firstOf rest))
-    go true q next = ((λ _. (h, r .tells .so q), λ _. refl), past (r .number) later _ (λ p. p .1 (r .tells .so q)) other)
+    go true q next =
+        ((λ _. (h, r .tells .so q), λ _. refl), past (r .number) later _ (λ p. p .1 (r .tells .so q)) other)
     go false q next =
         let unlike = r .tells .not-so q in
-        let one = one-after (firstOf rest) later _ (h, unlike) (next unlike) in
-        ((λ e. absurd (true≢false (sym one ∙ ap (oneOf (numbersOf later)) e ∙ other)), λ p. absurd (unlike (p .1))), next unlike)
+        let one = one-after (firstOf rest) later _ (h, unlike) (next unlike) in (
+          (λ e. absurd (true≢false (sym one ∙ ap (oneOf (numbersOf later)) e ∙ other)), λ p. absurd (unlike (p .1))),
+          next unlike,
+        )
 
 -- one group after another is one long group
 joined : (l m : List Row) → noZero l ≡ true → firstOf l ▷ firstOf m ≡ firstOf (l ++ m)
@@ -198,7 +213,9 @@ joined (r ∷ rest) m e = go (r .tells .test) (joined rest m (both (not (eqb (r 
   where
     go : (t : Bool) → firstOf rest ▷ firstOf m ≡ firstOf (rest ++ m)
         → cond t (r .number) (firstOf rest) ▷ firstOf m ≡ cond t (r .number) (firstOf (rest ++ m))
-    go true later = ap (λ (t : Bool). cond t (firstOf m) (r .number)) (not-true (eqb (r .number) 0) (both (not (eqb (r .number) 0)) (noZero rest) e .0))
+    go true later =
+        ap (λ (t : Bool). cond t (firstOf m) (r .number))
+        (not-true (eqb (r .number) 0) (both (not (eqb (r .number) 0)) (noZero rest) e .0))
     go false later = later
 
 split : (l m : List Row) → noZero (l ++ m) ≡ true → (noZero l ≡ true) × (noZero m ≡ true)
@@ -214,7 +231,8 @@ flat (x before y) e =
     let h = split (rowsOf x) (rowsOf y) e in
     ap₂ _▷_ (flat x (h .0)) (flat y (h .1)) ∙ joined (rowsOf x) (rowsOf y) (h .0)
 
-pub exactly : (x : Tests) → noZero (rowsOf x) && apart (numbersOf (casesOf x)) ≡ true → GivenExactly (casesOf x) (first x)
+pub exactly : (x : Tests) → noZero (rowsOf x) && apart (numbersOf (casesOf x)) ≡ true
+    → GivenExactly (casesOf x) (first x)
 exactly x e =
     let h = both _ _ e in
     subst (GivenExactly (casesOf x)) (sym (flat x (h .0))) (from-here (rowsOf x) Unit tt (h .1))

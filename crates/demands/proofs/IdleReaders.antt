@@ -15,7 +15,10 @@ use Rattle.demands.specs.Stated.{ofReceiving}
 use Rattle.rules.specs.Screen.{isTaken, membersOf, ourNumber, readingAnswer, received, tracksOf}
 use Rattle.rules.specs.Words.{_if_then_}
 use Rattle.rules.specs.declared.Received.{Received}
-use Rattle.rules_json.specs.Reader.{blanks, bracketedSaid, bracketedSize, charSize, charUnits, decoded, digits, escapeSize, expSize, fracSize, intSize, isText, nameSize, numberSize, scalarSaid, scalarSize, stringSize, stringUnits, textSaid, textSize, utf8Size, valueSaid, valueSize}
+use Rattle.rules_json.specs.Reader.{blanks, bracketedSaid, bracketedSize, charSize, charUnits, decoded, digits}
+use Rattle.rules_json.specs.Reader.{escapeSize, expSize, fracSize, intSize, isText, nameSize, numberSize, scalarSaid}
+use Rattle.rules_json.specs.Reader.{scalarSize, stringSize, stringUnits, textSaid, textSize, utf8Size, valueSaid}
+use Rattle.rules_json.specs.Reader.{valueSize}
 use Rattle.rules_json.specs.Tree.{Tree}
 use Rattle.rules_json.specs.Utf8.{utf16}
 

@@ -12,7 +12,8 @@ use Rattle.chains.proofs.Chains.{both}
 use Rattle.demands.specs.Screens.{All}
 use Rattle.rules.specs.Screen.{listed}
 use Rattle.rules_json.specs.Abnf.{Rule, octets, row, _then_}
-use Rattle.rules_json.specs.Grammar.{Array, Blanks, Char, MemberRule, NameSeparator, String, Structural, ValueSeparator, joined, unescaped}
+use Rattle.rules_json.specs.Grammar.{Array, Blanks, Char, MemberRule, NameSeparator, String}
+use Rattle.rules_json.specs.Grammar.{Structural, ValueSeparator, joined, unescaped}
 use Rattle.rules_json.specs.Tree.{Member}
 use Rattle.rules_json.specs.Utf8.{character, utf16, utf8}
 

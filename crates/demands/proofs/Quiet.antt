@@ -1,5 +1,6 @@
--- Demand 3, stated in specs/Quiet: no lamp is stuck. On a reached station a quiet list of reports does what its ticks do, one after the other, but for
--- the head conditions; and what so many ticks come to is said of each part in `clock/proofs/Settling`.
+-- Demand 3, stated in specs/Quiet: no lamp is stuck. On a reached station a quiet list of reports does what
+-- its ticks do, one after the other, but for the head conditions; and what so many ticks come to is said of
+-- each part in `clock/proofs/Settling`.
 -- Assumes nothing.
 use Prim.Native.Nat.{ℕ, zero, suc, _+_, _≤_}
 use native.Mathlib.Omega.{arith}
@@ -10,11 +11,13 @@ use borrow.Author.Tests.{eq-eqb, eqb-true, le-ltb, leb-true}
 use lib.Dec.{leb, ltb}
 use Rattle.chains.proofs.Chains.{both}
 use Rattle.clock.proofs.Settled.{all-held-then, no-advance-then, no-near-then, occupied-still, occupied-still-in}
-use Rattle.clock.proofs.Settling.{fault-then, hold-falls, no-risk-then, ticks-add, ticks-conditions, ticks-live, ticks-settings}
+use Rattle.clock.proofs.Settling.{fault-then, hold-falls, no-risk-then, ticks-add}
+use Rattle.clock.proofs.Settling.{ticks-conditions, ticks-live, ticks-settings}
 use Rattle.clock.specs.Ages.{laterTrack}
 use Rattle.demands.proofs.ApartLaws.{aspectIn, refused-keeps}
 use Rattle.demands.proofs.Reached.{Kept, kept-after, reached-keeps}
-use Rattle.demands.specs.Quiet.{NotStuck, Quiet, Reached, accepted, afterAll, clockGone, greatest, isClock, isHead, longEnough, settled, warningOccupied}
+use Rattle.demands.specs.Quiet.{NotStuck, Quiet, Reached, accepted, afterAll, clockGone, greatest}
+use Rattle.demands.specs.Quiet.{isClock, isHead, longEnough, settled, warningOccupied}
 use Rattle.islands.proofs.Below.{any-alike, any-map, any-none}
 use Rattle.islands.proofs.UpperLimits.{timers}
 use Rattle.reports.proofs.FiveIslands.{Five, five-take}
@@ -23,7 +26,8 @@ use Rattle.rules.specs.Answers.{answerOf, stationAfter}
 use Rattle.rules.specs.Aspect.{aspectOf, freshAdvance, freshNear, greatestRisk, someHeld}
 use Rattle.rules.specs.Kinds.{clock, headCondition, kindOf}
 use Rattle.rules.specs.Reports.{acted, holdSet, ticks}
-use Rattle.rules.specs.Station.{Zone, advance, crossing, isWarning, live, someOccupied, timer, warning, withCondition, withConditions, withHold, withinLimits}
+use Rattle.rules.specs.Station.{Zone, advance, crossing, isWarning, live, someOccupied, timer, warning}
+use Rattle.rules.specs.Station.{withCondition, withConditions, withHold, withinLimits}
 use Rattle.rules.specs.Words.{any, within, _if_then_}
 use Rattle.rules.specs.declared.Report.{Report}
 use Rattle.rules.specs.declared.Settings.{Settings}
@@ -39,7 +43,8 @@ AsTicks s n t = t ≡ withConditions (ticks n s) (t .conditions)
 then-ticks : (s t u : Station) (n m : ℕ) → AsTicks s n t → AsTicks t m u → AsTicks s (n + m) u
 then-ticks s t u n m e f =
     f
-    ∙ ap (λ (v : Station). withConditions v (u .conditions)) (ap (ticks m) e ∙ ticks-conditions m (ticks n s) (t .conditions))
+    ∙ ap (λ (v : Station). withConditions v (u .conditions))
+    (ap (ticks m) e ∙ ticks-conditions m (ticks n s) (t .conditions))
     ∙ ap (λ (v : Station). withConditions v (u .conditions)) (ticks-add n m s)
 
 -- a hold that is full stays as it is where it is set again
@@ -72,23 +77,28 @@ module _ (s : Station) (r : Report) (k : Kept s) where
   unfolding ticks withCondition
   as-head e = let g = e ∙ head-changes s r k in g ∙ ap (λ (t : Station). withConditions s (t .conditions)) (sym g)
 
-  as-ticks : not (accepted s r) || isClock r || isHead r ≡ true → AsTicks s (cond (accepted s r && isClock r) (r .value) 0) (stationAfter s r)
+  as-ticks : not (accepted s r) || isClock r || isHead r ≡ true
+      → AsTicks s (cond (accepted s r && isClock r) (r .value) 0) (stationAfter s r)
   unfolding kindOf
   as-ticks = go (accepted s r) refl (isClock r) refl (isHead r) refl
     where
-      go : (a : Bool) → accepted s r ≡ a → (c : Bool) → isClock r ≡ c → (h : Bool) → isHead r ≡ h → not a || c || h ≡ true
+      go : (a : Bool) → accepted s r ≡ a → (c : Bool) → isClock r ≡ c → (h : Bool) → isHead r ≡ h
+          → not a || c || h ≡ true
           → AsTicks s (cond (a && c) (r .value) 0) (stationAfter s r)
       go false ea c ec h eh e = unchanged (refused-keeps s r (λ z. false≢true (sym ea ∙ eq-eqb (answerOf s r) 0 z)))
       go true ea true ec h eh e = as-clock (as-accepted (eqb-true (answerOf s r) 0 ea) 3 (eqb-true (r .kind) 3 ec))
       go true ea false ec true eh e = as-head (as-accepted (eqb-true (answerOf s r) 0 ea) 6 (eqb-true (r .kind) 6 eh))
       go true ea false ec false eh e = absurd (false≢true e)
 
-pub quiet-is-clock : (rs : List Report) (s : Station) → Kept s → Quiet s rs ≡ true → AsTicks s (clockGone s rs) (afterAll s rs)
+pub quiet-is-clock : (rs : List Report) (s : Station) → Kept s → Quiet s rs ≡ true
+    → AsTicks s (clockGone s rs) (afterAll s rs)
 unfolding afterAll Quiet clockGone ticks
 quiet-is-clock [] s k q = refl
 quiet-is-clock (r ∷ rs) s k q =
     let (now, later) = both (not (accepted s r) || isClock r || isHead r) (Quiet (stationAfter s r) rs) q in
-    then-ticks s (stationAfter s r) (afterAll (stationAfter s r) rs) (cond (accepted s r && isClock r) (r .value) 0) (clockGone (stationAfter s r) rs) (as-ticks s r k now) (quiet-is-clock rs (stationAfter s r) (kept-after s r k) later)
+    then-ticks s (stationAfter s r) (afterAll (stationAfter s r) rs) (cond (accepted s r && isClock r) (r .value) 0)
+    (clockGone (stationAfter s r) rs) (as-ticks s r k now)
+    (quiet-is-clock rs (stationAfter s r) (kept-after s r k) later)
 
 -- ---- so many ticks settle the aspect
 
@@ -117,9 +127,13 @@ module _ (c : Settings) (n : ℕ) (limit : (z : Zone) → timer c z ≤ 65535) (
   held-then [] f = refl
   held-then (t ∷ l) f = ap₂ _||_ (all-held-then c n t limit long (f .0)) (held-then l (f .1))
 
-settled-then : (s : Station) → Kept s → (n : ℕ) → longEnough (s .settings) ≤ n → aspectOf (ticks n s) ≡ settled (s .fault) s
+settled-then : (s : Station) → Kept s → (n : ℕ) → longEnough (s .settings) ≤ n
+    → aspectOf (ticks n s) ≡ settled (s .fault) s
 unfolding aspectOf _if_then_
-settled-then s k zero long = let over : 1 ≤ s .settings .t5 = limits (s .settings) (k .shape .within) .2 in let none : ⊥ = omega arith in absurd none
+settled-then s k zero long =
+    let over : 1 ≤ s .settings .t5 = limits (s .settings) (k .shape .within) .2 in
+    let none : ⊥ = omega arith in
+    absurd none
 settled-then s k (suc m) long =
     (λ i. aspectIn (ticks-settings n s i) (ticks-live n s i) (fault i) (at-rest i))
     ∙ λ i.
@@ -151,17 +165,26 @@ settled-then s k (suc m) long =
     fault = fault-then s (limits c (k .shape .within) .1) m (omega (arith, long))
 
     at-rest : greatestRisk (ticks n s) || ltb 0 (ticks n s .hold) ≡ false
-    at-rest = ap₂ _||_ (no-risk-then s limit n reached) (le-ltb 0 (ticks n s .hold) (omega (arith, long, hold-falls s limit (greatest c) slowest (k .most) n)))
+    at-rest =
+        ap₂ _||_ (no-risk-then s limit n reached)
+        (le-ltb 0 (ticks n s .hold) (omega (arith, long, hold-falls s limit (greatest c) slowest (k .most) n)))
 
     none : (p : Track → Bool) → ((t : Track) → p (laterTrack n t) ≡ false) → any p (map (laterTrack n) (live s)) ≡ false
     none p e = any-map (laterTrack n) p (live s) ∙ any-none (λ t. p (laterTrack n t)) e (live s)
 
 -- no tick occupies or frees an island
 settled-still : (s : Station) (n : ℕ) (latched : Bool) → settled latched (ticks n s) ≡ settled latched s
-settled-still s n latched = λ i. 5 if latched || still warningOccupied (λ t. occupied-still-in n t isWarning) i then 4 if still someOccupied (λ t. occupied-still n t) i then 0
+settled-still s n latched =
+    λ i.
+    5 if latched || still warningOccupied (λ t. occupied-still-in n t isWarning) i then
+    4 if still someOccupied (λ t. occupied-still n t) i then
+    0
   where
     still : (p : Track → Bool) → ((t : Track) → p (laterTrack n t) ≡ p t) → any p (live (ticks n s)) ≡ any p (live s)
-    still p e = ap (any p) (ticks-live n s) ∙ any-map (laterTrack n) p (live s) ∙ any-alike (λ t. p (laterTrack n t)) p e (live s)
+    still p e =
+        ap (any p) (ticks-live n s)
+        ∙ any-map (laterTrack n) p (live s)
+        ∙ any-alike (λ t. p (laterTrack n t)) p e (live s)
 
 -- ---- demand 3
 
@@ -177,7 +200,8 @@ quiet-first (r ∷ rs) more s q =
     let (now, later) = both (not (accepted s r) || isClock r || isHead r) (Quiet (stationAfter s r) (rs ++ more)) q in
     ap₂ _&&_ now (quiet-first rs more (stationAfter s r) later)
 
-module _ (s : Station) (k : Kept s) (rs : List Report) (q : Quiet s rs ≡ true) (long : longEnough (s .settings) ≤ clockGone s rs) where
+module _ (s : Station) (k : Kept s) (rs : List Report) (q : Quiet s rs ≡ true)
+    (long : longEnough (s .settings) ≤ clockGone s rs) where
   -- the head conditions are not read
   aspect-at-last : aspectOf (afterAll s rs) ≡ settled (s .fault) s
   unfolding aspectOf greatestRisk
@@ -190,7 +214,9 @@ pub no-lamp-stuck : (s : Station) → Reached s → NotStuck s
 no-lamp-stuck s reached =
     record {
       settles = λ rs q long. aspect-at-last s k rs q long ∙ sym (settled-at-last s k rs q long);
-      stays = λ rs more q long. aspect-at-last s k (rs ++ more) q (omega (arith, long, gone-more rs more s)) ∙ sym (aspect-at-last s k rs (quiet-first rs more s q) long);
+      stays = λ rs more q long.
+          aspect-at-last s k (rs ++ more) q (omega (arith, long, gone-more rs more s))
+          ∙ sym (aspect-at-last s k rs (quiet-first rs more s q) long);
     }
   where
     k : Kept s

@@ -1,4 +1,5 @@
--- What every station keeps that is reached from a fresh one: a hold of at most T4, and of T4 where the condition is true.
+-- What every station keeps that is reached from a fresh one: a hold of at most T4, and of T4
+-- where the condition is true.
 -- Assumes nothing.
 use Prim.Native.Nat.{ℕ, zero, suc, _-_, _≤_}
 use native.Mathlib.Omega.{arith}
@@ -13,7 +14,8 @@ use Rattle.reports.proofs.Accepted.{after-any}
 use Rattle.reports.proofs.Shape.{Shaped, shaped-fresh, shaped-named, shaped-older}
 use Rattle.rules.specs.Answers.{stationAfter}
 use Rattle.rules.specs.Aspect.{greatestRisk, present, someFresh}
-use Rattle.rules.specs.Kinds.{Kind, clock, detectorFailed, detectorRestored, headCondition, islandFree, islandOccupied, kindOf, noKind, normalise}
+use Rattle.rules.specs.Kinds.{Kind, clock, detectorFailed, detectorRestored, headCondition}
+use Rattle.rules.specs.Kinds.{islandFree, islandOccupied, kindOf, noKind, normalise}
 use Rattle.rules.specs.Reports.{acted, allOlder, faultLatched, holdLowered, holdSet, tick, ticks, withNamed}
 use Rattle.rules.specs.Station.{freeTrack, freshStation, withCondition, withFault, withTrack, withinLimits}
 use Rattle.rules.specs.Words.{any, count, within}
@@ -31,7 +33,11 @@ pub record Kept (s : Station) : Type 0 where
 -- once the hold is set it is full where the condition is true
 kept-set : (s : Station) → Shaped s → s .hold ≤ s .settings .t4 → Kept (holdSet s)
 unfolding holdSet greatestRisk
-kept-set s w h = record { shape = w; most = most (greatestRisk s); full = λ e. ap (λ (b : Bool). cond b (s .settings .t4) (s .hold)) e }
+kept-set s w h = record {
+  shape = w;
+  most = most (greatestRisk s);
+  full = λ e. ap (λ (b : Bool). cond b (s .settings .t4) (s .hold)) e;
+}
   where
     most : (b : Bool) → cond b (s .settings .t4) (s .hold) ≤ s .settings .t4
     most true = omega arith
@@ -39,7 +45,9 @@ kept-set s w h = record { shape = w; most = most (greatestRisk s); full = λ e. 
 
 kept-tick : (s : Station) → Kept s → Kept (tick s)
 unfolding tick faultLatched allOlder holdLowered
-kept-tick s k = kept-set (faultLatched (allOlder (holdLowered s))) (shaped-older s (k .shape)) (lower (not (greatestRisk s) && ltb 0 (s .hold)))
+kept-tick s k =
+    kept-set (faultLatched (allOlder (holdLowered s))) (shaped-older s (k .shape))
+    (lower (not (greatestRisk s) && ltb 0 (s .hold)))
   where
     lower : (b : Bool) → cond b (s .hold - 1) (s .hold) ≤ s .settings .t4
     lower true = omega (arith, k .most)
@@ -50,7 +58,8 @@ unfolding ticks
 kept-ticks zero s k = k
 kept-ticks (suc n) s k = kept-tick (ticks n s) (kept-ticks n s k)
 
-kept-named : (s : Station) (r : Report) (i : Island) (fault : Bool) → Kept s → Kept (holdSet (withFault (withNamed s r i) fault))
+kept-named : (s : Station) (r : Report) (i : Island) (fault : Bool) → Kept s
+    → Kept (holdSet (withFault (withNamed s r i) fault))
 unfolding withTrack
 kept-named s r i fault k = kept-set _ (shaped-named s r i (k .shape)) (k .most)
 
@@ -76,19 +85,24 @@ kept-all (r ∷ rs) s k = kept-all rs (stationAfter s r) (kept-after s r k)
 none-of-few : {A : Type 0} (p : A → Bool) (n : ℕ) (l : List A) → any p l ≡ false → any p (take n l) ≡ false
 none-of-few p zero l e = refl
 none-of-few p (suc n) [] e = refl
-none-of-few p (suc n) (x ∷ l) e = let (first, rest) = neither (p x) (any p l) e in ap₂ _||_ first (none-of-few p n l rest)
+none-of-few p (suc n) (x ∷ l) e =
+    let (first, rest) = neither (p x) (any p l) e in
+    ap₂ _||_ first (none-of-few p n l rest)
 
 kept-fresh : (c : Settings) → withinLimits c ≡ true → Kept (freshStation c)
 unfolding freshStation greatestRisk someFresh
 kept-fresh c w =
     record { shape = shaped-fresh c w; most = omega arith; full = λ e. absurd (false≢true (sym no-risk ∙ e)) }
   where
-    no-risk : any (someFresh c) (take (c .tracks) (replicate 4 freeTrack)) && leb 2 (count (present c) (take (c .tracks) (replicate 4 freeTrack))) ≡ false
-    no-risk = ap (λ (b : Bool). b && leb 2 (count (present c) (take (c .tracks) (replicate 4 freeTrack)))) (none-of-few (someFresh c) (c .tracks) (replicate 4 freeTrack) refl)
+    no-risk : any (someFresh c) (take (c .tracks) (replicate 4 freeTrack))
+        && leb 2 (count (present c) (take (c .tracks) (replicate 4 freeTrack))) ≡ false
+    no-risk = ap (λ (b : Bool). b && leb 2 (count (present c) (take (c .tracks) (replicate 4 freeTrack))))
+        (none-of-few (someFresh c) (c .tracks) (replicate 4 freeTrack) refl)
 
 -- The hold never exceeds T4 on a reached station.
 pub reached-keeps : (s : Station) → Reached s → Kept s
-reached-keeps s r = subst Kept (r .reached) (kept-all (r .reports) (freshStation (r .settings)) (kept-fresh (r .settings) (r .within)))
+reached-keeps s r =
+    subst Kept (r .reached) (kept-all (r .reports) (freshStation (r .settings)) (kept-fresh (r .settings) (r .within)))
 
 -- Any settings within their limits and any reports reach a station: `Reached` leaves none out.
 pub reached-by : (c : Settings) → withinLimits c ≡ true → (rs : List Report) → Reached (afterAll (freshStation c) rs)

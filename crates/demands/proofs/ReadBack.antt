@@ -1,6 +1,7 @@
--- Document 01, "The register": "Reading .. gives the rows back when they were appended at 0, 1, 2 and on, from a fresh station, each with the station the
--- last one returned, and exactly the filled bytes are read." And demand 2: "A register that we start and fill reads back to the same rows, and stepping
--- back to any row gives the station as it was after that row."
+-- Document 01, "The register": "Reading .. gives the rows back when they were appended at 0, 1, 2 and on, from a
+-- fresh station, each with the station the last one returned, and exactly the filled bytes are read." And demand 2:
+-- "A register that we start and fill reads back to the same rows, and stepping back to any row gives the station as
+-- it was after that row."
 -- Assumes nothing.
 use Prim.Native.Nat.{ℕ, zero, suc, _+_, _-_, _≤_, _<_}
 use native.Mathlib.Omega.{arith}
@@ -12,14 +13,19 @@ use lib.Dec.{eqb, leb, ltb}
 use lib.ListN.{length, take}
 use lib.Seq.{length-take-le, take-take}
 use Rattle.demands.proofs.ApartTracks.{settings-stay}
-use Rattle.demands.proofs.RegisterBytes.{begun-head, begun-settings, entry-answer, entry-aspect, entry-report, first-entry, length-done, same-entry, same-first}
-use Rattle.demands.proofs.RegisterLaws.{append-applies, append-elsewhere, append-enters, start-elsewhere, start-header}
-use Rattle.demands.specs.ReadBack.{Appends, Filling, ReadsBack, Room, answer, aspect, filled, ours, register, station, wholly}
+use Rattle.demands.proofs.RegisterBytes.{begun-head, begun-settings, entry-answer, entry-aspect, entry-report}
+use Rattle.demands.proofs.RegisterBytes.{first-entry, length-done, same-entry, same-first}
+use Rattle.demands.proofs.RegisterLaws.{append-applies, append-elsewhere, append-enters}
+use Rattle.demands.proofs.RegisterLaws.{start-elsewhere, start-header}
+use Rattle.demands.specs.ReadBack.{Appends, Filling, ReadsBack, Room, answer, aspect}
+use Rattle.demands.specs.ReadBack.{filled, ours, register, station, wholly}
 use Rattle.register.proofs.FirstWrong.{below-next, right}
 use Rattle.rules.specs.Answers.{answerOf, stationAfter}
 use Rattle.rules.specs.Aspect.{aspectOf}
 use Rattle.rules.specs.Layout.{entries, entryAt, entryOf, entryStart, header, reportIn, settingsIn}
-use Rattle.rules.specs.Register.{after, appendAnswer, asReplayed, entryAnswer, firstWrong, handedBack, headAnswer, newEntry, readAnswer, readOf, readingOf, registerAnswer, sameSettings, startAnswer, stepAnswer, stepOf, unfit}
+use Rattle.rules.specs.Register.{after, appendAnswer, asReplayed, entryAnswer, firstWrong, handedBack}
+use Rattle.rules.specs.Register.{headAnswer, newEntry, readAnswer, readOf, readingOf, registerAnswer}
+use Rattle.rules.specs.Register.{sameSettings, startAnswer, stepAnswer, stepOf, unfit}
 use Rattle.rules.specs.Station.{freshStation, leastSettings, made, settingsAnswer, withinLimits}
 use Rattle.rules.specs.Words.{_if_then_, _▷_}
 use Rattle.rules.specs.declared.Report.{Report}
@@ -78,7 +84,8 @@ new-right s r =
     let n = answerOf s r in
     let shown = aspectOf (stationAfter s r) in
     let same = entry-report r n shown in
-    (λ i. eqb (entry-answer r n shown i) (answerOf s (same i)) && eqb (entry-aspect r n shown i) (aspectOf (stationAfter s (same i))))
+    (λ i. eqb (entry-answer r n shown i) (answerOf s (same i))
+    && eqb (entry-aspect r n shown i) (aspectOf (stationAfter s (same i))))
     ∙ λ i. eq-eqb n n refl i && eq-eqb shown shown refl i
 
 -- ---- what is kept while the register is filled
@@ -89,17 +96,20 @@ record Kept (f : Filling) (n : ℕ) : Type 0 where
   head : take 16 (filled f n .bytes) ≡ header (f .settings)
   entry : (j : ℕ) → j < n → entryAt (filled f n .bytes) j ≡ entryOf (f .report j) (answer f j) (aspect f j)
 
-can-append : (f : Filling) (n : ℕ) → Kept f n → Room f (suc n) → appendAnswer (filled f n .bytes) n (filled f n .station .settings) ≡ 0
+can-append : (f : Filling) (n : ℕ) → Kept f n → Room f (suc n)
+    → appendAnswer (filled f n .bytes) n (filled f n .station .settings) ≡ 0
 can-append f n k room =
     let b = filled f n .bytes in
     let c = f .settings in
     let lent : entryStart (suc n) ≤ length b = omega (arith, k .size, room .lent) in
     ap (λ (s : Station). appendAnswer b n (s .settings)) (k .station)
     ∙ ap (appendAnswer b n) (station-settings f n (room .settings))
-    ∙ append-done b n c (room .settings) (begun-head c b (k .head) (omega arith)) (begun-settings c b (k .head)) (room .few) lent
+    ∙ append-done b n c (room .settings) (begun-head c b (k .head) (omega arith))
+    (begun-settings c b (k .head)) (room .few) lent
 
 earlier : (f : Filling) (n k : ℕ) → Room f n → k ≤ n → Room f k
-earlier f n k room h = record { settings = room .settings; few = omega (arith, room .few); lent = omega (arith, room .lent) }
+earlier f n k room h =
+    record { settings = room .settings; few = omega (arith, room .few); lent = omega (arith, room .lent) }
 
 keeps : (f : Filling) (n : ℕ) → Kept f n → Room f (suc n) → Kept f (suc n)
 unfolding filled station
@@ -110,7 +120,8 @@ keeps f n k room =
     let z = can-append f n k room in
     let elsewhere = append-elsewhere b n s r in
     record {
-      station = ap (λ (t : Taken). t .station) (append-applies b n s r z) ∙ ap (λ (t : Station). stationAfter t r) (k .station);
+      station = ap (λ (t : Taken). t .station) (append-applies b n s r z)
+          ∙ ap (λ (t : Station). stationAfter t r) (k .station);
       size = elsewhere .2 ∙ k .size;
       head = same-first 16 (entryStart n) _ b (omega arith) (elsewhere .0) ∙ k .head;
       entry =
@@ -139,7 +150,10 @@ appends f n room =
     record {
       taken =
           append-applies (filled f n .bytes) n (filled f n .station) (f .report n) (can-append f n k room)
-          ∙ λ i. record { answer = answerOf (k .station i) (f .report n); station = stationAfter (k .station i) (f .report n) };
+          ∙ λ i. record {
+            answer = answerOf (k .station i) (f .report n);
+            station = stationAfter (k .station i) (f .report n);
+          };
     }
 
 -- ---- the filled bytes, read
@@ -174,7 +188,8 @@ module _ (f : Filling) (n : ℕ) (room : Room f n) where
   unfolding after station
   replayed zero h = ap (λ (c : Settings). made c .station) filled-settings
   replayed (suc k) h =
-      λ i. stationAfter (replayed k (omega arith) i) ((ap reportIn (filled-entry k h) ∙ entry-report (f .report k) (answer f k) (aspect f k)) i)
+      λ i. stationAfter (replayed k (omega arith) i)
+      ((ap reportIn (filled-entry k h) ∙ entry-report (f .report k) (answer f k) (aspect f k)) i)
 
   -- each entry's answer and aspect are what the replay gives
   entry-right : (k : ℕ) → k < n → right (register f n) k ≡ true
@@ -195,7 +210,8 @@ module _ (f : Filling) (n : ℕ) (room : Room f n) where
   read-done : readAnswer (register f n) ≡ 0
   unfolding readAnswer _if_then_ _▷_
   read-done =
-      λ i. register-done i ▷ 13 if not (eqb (none-named (entries (register f n)) (omega (arith, filled-entries)) i) 0) then 0
+      λ i. register-done i
+      ▷ 13 if not (eqb (none-named (entries (register f n)) (omega (arith, filled-entries)) i) 0) then 0
 
   read-whole : readOf (register f n) ≡ wholly n (station f n)
   unfolding readOf
@@ -218,7 +234,9 @@ module _ (f : Filling) (n : ℕ) (room : Room f n) where
   entry-done k h =
       λ i.
       register-done i
-      ▷ 14 if ne-eqb (suc k) 0 (omega arith) i || le-ltb (entries (register f n)) (suc k) (omega (arith, filled-entries)) i then 0
+      ▷ 14 if ne-eqb (suc k) 0 (omega arith) i
+      || le-ltb (entries (register f n)) (suc k) (omega (arith, filled-entries)) i then
+      0
 
   read-entry : (k : ℕ) → k < n → handedBack (register f n) (suc k) ≡ entryOf (f .report k) (answer f k) (aspect f k)
   unfolding handedBack

@@ -1,4 +1,5 @@
--- Demand 1: "A refusal leaves the station and every buffer as they were, except that a report refused by 1 to 7 still gets its row."
+-- Demand 1: "A refusal leaves the station and every buffer as they were, except that a report refused by 1 to 7
+-- still gets its row."
 -- Assumes nothing.
 use Prim.Native.Nat.{ℕ, _≤_}
 use native.Mathlib.Decide.{ℕ-discrete}
@@ -13,7 +14,8 @@ use Rattle.chains.proofs.Chains.{group-so, test-so}
 use Rattle.demands.proofs.BrowseBack.{refused-stays}
 use Rattle.demands.proofs.Exactly.{in-its-case}
 use Rattle.demands.proofs.RecordedBack.{texts-recorded}
-use Rattle.demands.proofs.RegisterLaws.{append-applies, append-elsewhere, append-enters-refused, append-refused, start-refused}
+use Rattle.demands.proofs.RegisterLaws.{append-applies, append-elsewhere, append-enters-refused}
+use Rattle.demands.proofs.RegisterLaws.{append-refused, start-refused}
 use Rattle.demands.proofs.Screens.{writes}
 use Rattle.demands.proofs.Stated.{append-within, stated-report}
 use Rattle.demands.specs.Refusal.{AppendLeaves, RefusalLeaves}
@@ -46,7 +48,8 @@ module _ (b : List ℕ) (k : ℕ) (s : Station) (r : Report) where
   to-seven z =
       let most = answer-below s r in
       let not-eight : answerOf s r ≡ 8 → ⊥ =
-      λ e. true≢false (sym (append-within b k (s .settings) z) ∙ in-its-case (ofTaking s r) _ 8 (stated-report s r) e) in
+      λ e.
+      true≢false (sym (append-within b k (s .settings) z) ∙ in-its-case (ofTaking s r) _ 8 (stated-report s r) e) in
       omega arith
 
   append-leaves : AppendLeaves b k s r (appended b k s r) (appendedBytes b k s r)

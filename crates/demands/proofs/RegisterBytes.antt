@@ -1,5 +1,5 @@
--- Document 01, "The register": header of 16 bytes, each entry 8 bytes. What is read out of them is what was put in, and bytes put in one place
--- leave the others.
+-- Document 01, "The register": header of 16 bytes, each entry 8 bytes. What is read out of them is what was put in, and
+-- bytes put in one place leave the others.
 -- Assumes nothing.
 use Prim.Native.Nat.{ℕ, zero, suc, _+_, _*_, _-_, _%_, _≤_, _<_}
 use native.Mathlib.Nat.{mod-add-div}
@@ -92,11 +92,13 @@ unfolding headAnswer
 first-head b =
     let at = first-byte b in
     λ i.
-    9 if ltb (length b) 16 || not (eqb (at 0 (omega arith) i) 67 && eqb (at 1 (omega arith) i) 69 && eqb (at 2 (omega arith) i) 65) then
+    9 if ltb (length b) 16
+    || not (eqb (at 0 (omega arith) i) 67 && eqb (at 1 (omega arith) i) 69 && eqb (at 2 (omega arith) i) 65) then
     10 if not (eqb (at 3 (omega arith) i + 256 * at 4 (omega arith) i) 1) then
     0
 
-pub same-head : (b b′ : List ℕ) → take 16 b ≡ take 16 b′ → ltb (length b) 16 ≡ ltb (length b′) 16 → headAnswer b ≡ headAnswer b′
+pub same-head : (b b′ : List ℕ) → take 16 b ≡ take 16 b′ → ltb (length b) 16 ≡ ltb (length b′) 16
+    → headAnswer b ≡ headAnswer b′
 same-head b b′ e l = sym (first-head b) ∙ (λ i. headFrom (l i) (e i)) ∙ first-head b′
 
 -- bytes that begin with a header hold its settings, and are refused with neither number
@@ -123,7 +125,8 @@ length-done b n l few =
 
 pub entry-report : (r : Report) (answer aspect : ℕ) → reportIn (entryOf r answer aspect) ≡ r
 unfolding entryOf reportIn
-entry-report r answer aspect = λ i. record { kind = r .kind; a = r .a; b = r .b; spare = r .spare; value = mod-add-div (r .value) 256 i }
+entry-report r answer aspect =
+    λ i. record { kind = r .kind; a = r .a; b = r .b; spare = r .spare; value = mod-add-div (r .value) 256 i }
 
 pub entry-answer : (r : Report) (answer aspect : ℕ) → answerIn (entryOf r answer aspect) ≡ answer
 unfolding entryOf

@@ -1,6 +1,6 @@
--- Document 01, "The register": "Starting writes the header and touches no other byte. Appending at entry k writes those 8 bytes only, and does not read
--- earlier entries." And "a report refused by 1 to 7 is entered too, with its number, and the station stays". "The numbers it answers": apart from that
--- entry, refusals write to no buffer.
+-- Document 01, "The register": "Starting writes the header and touches no other byte. Appending at entry k writes those
+-- 8 bytes only, and does not read earlier entries." And "a report refused by 1 to 7 is entered too, with its number,
+-- and the station stays". "The numbers it answers": apart from that entry, refusals write to no buffer.
 -- Assumes nothing.
 use Prim.Native.Nat.{ℕ, _+_, _≤_}
 use native.Mathlib.Decide.{ℕ-discrete}
@@ -48,7 +48,8 @@ unfolding header
 start-header c b z = ap (take 16) (start-writes c b z) ∙ put-there 0 (header c) b (start-room c b z)
 
 -- and touches no other byte.
-pub start-elsewhere : (c : Settings) (b : List ℕ) → (drop 16 (started c b) ≡ drop 16 b) × (length (started c b) ≡ length b)
+pub start-elsewhere : (c : Settings) (b : List ℕ)
+    → (drop 16 (started c b) ≡ drop 16 b) × (length (started c b) ≡ length b)
 unfolding header
 start-elsewhere c b = go (ℕ-discrete (startAnswer c b) 0)
   where
@@ -84,7 +85,8 @@ module _ (b : List ℕ) (k : ℕ) (s : Station) (r : Report) where
       )
 
   -- otherwise it is applied,
-  pub append-applies : appendAnswer b k (s .settings) ≡ 0 → appended b k s r ≡ record { answer = answerOf s r; station = stationAfter s r }
+  pub append-applies : appendAnswer b k (s .settings) ≡ 0
+      → appended b k s r ≡ record { answer = answerOf s r; station = stationAfter s r }
   unfolding appended
   append-applies z =
       λ i.
@@ -96,7 +98,9 @@ module _ (b : List ℕ) (k : ℕ) (s : Station) (r : Report) where
   -- and entered
   pub append-enters : appendAnswer b k (s .settings) ≡ 0 → entryAt (appendedBytes b k s r) k ≡ newEntry s r
   unfolding entryAt entryOf
-  append-enters z = ap (λ (l : List ℕ). take 8 (drop (entryStart k) l)) (append-writes z) ∙ put-there (entryStart k) (newEntry s r) b (append-room z)
+  append-enters z =
+      ap (λ (l : List ℕ). take 8 (drop (entryStart k) l)) (append-writes z)
+      ∙ put-there (entryStart k) (newEntry s r) b (append-room z)
 
   -- a report refused by 1 to 7 too, with its number, and the station stays.
   pub append-enters-refused : appendAnswer b k (s .settings) ≡ 0 → (answerOf s r ≡ 0 → ⊥)
@@ -119,18 +123,26 @@ module _ (b : List ℕ) (k : ℕ) (s : Station) (r : Report) where
           let next : entryStart k + 8 ≡ entryStart (k + 1) = omega arith in (
             ap (take (entryStart k)) (append-writes z) ∙ put-before (entryStart k) (newEntry s r) b room,
             ap (drop (entryStart (k + 1))) (append-writes z)
-                ∙ subst (λ (n : ℕ). drop n (put (entryStart k) (newEntry s r) b) ≡ drop n b) next (put-after (entryStart k) (newEntry s r) b room),
+                ∙ subst (λ (n : ℕ). drop n (put (entryStart k) (newEntry s r) b) ≡ drop n b) next
+                (put-after (entryStart k) (newEntry s r) b room),
             ap length (append-writes z) ∙ put-length (entryStart k) (newEntry s r) b room,
           )
-      go (no z) = let same = append-refused z .0 in (ap (take (entryStart k)) same, ap (drop (entryStart (k + 1))) same, ap length same)
+      go (no z) =
+          let same = append-refused z .0 in
+          (ap (take (entryStart k)) same, ap (drop (entryStart (k + 1))) same, ap length same)
 
 -- ---- Appending does not read earlier entries.
 
-module _ (b b′ : List ℕ) (k : ℕ) (s : Station) (r : Report) (e : take 16 b ≡ take 16 b′) (l : length b ≡ length b′) where
+module _ (b b′ : List ℕ) (k : ℕ) (s : Station) (r : Report) (e : take 16 b ≡ take 16 b′)
+    (l : length b ≡ length b′) where
   same-answer : (c : Settings) → appendAnswer b k c ≡ appendAnswer b′ k c
   unfolding appendAnswer
   same-answer c =
-      λ i. same-head b b′ e (ap (λ (n : ℕ). ltb n 16) l) i ▷ 8 if unfit (same-settings b b′ e i) c then 12 if leb 8190 k || ltb (l i) (entryStart (k + 1)) then 0
+      λ i.
+      same-head b b′ e (ap (λ (n : ℕ). ltb n 16) l) i
+      ▷ 8 if unfit (same-settings b b′ e i) c then
+      12 if leb 8190 k || ltb (l i) (entryStart (k + 1)) then
+      0
 
   pub append-apart : appended b k s r ≡ appended b′ k s r
   unfolding appended
@@ -141,5 +153,6 @@ module _ (b b′ : List ℕ) (k : ℕ) (s : Station) (r : Report) (e : take 16 b
         station = cond (eqb (same-answer (s .settings) i) 0) (stationAfter s r) s;
       }
 
-  pub append-entry-apart : appendAnswer b k (s .settings) ≡ 0 → entryAt (appendedBytes b k s r) k ≡ entryAt (appendedBytes b′ k s r) k
+  pub append-entry-apart : appendAnswer b k (s .settings) ≡ 0
+      → entryAt (appendedBytes b k s r) k ≡ entryAt (appendedBytes b′ k s r) k
   append-entry-apart z = append-enters b k s r z ∙ sym (append-enters b′ k s r (sym (same-answer (s .settings)) ∙ z))

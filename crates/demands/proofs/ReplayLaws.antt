@@ -1,6 +1,7 @@
--- Document 01, "The numbers it answers": reading, stepping and handing back are tested for 9, 10, 11, 12 and 8 alike; 13 names the first entry whose
--- answer or aspect is not what the replay gives; stepping looks for it among the first k entries only. "Easy to get wrong": keeping rows that follow the
--- live station; a row stepped back to does not follow what came later, and is what was read when it was the last.
+-- Document 01, "The numbers it answers": reading, stepping and handing back are tested for 9, 10, 11, 12 and 8 alike;
+-- 13 names the first entry whose answer or aspect is not what the replay gives; stepping looks for it among the first k
+-- entries only. "Easy to get wrong": keeping rows that follow the live station; a row stepped back to does not follow
+-- what came later, and is what was read when it was the last.
 -- Assumes nothing.
 use Prim.Native.Nat.{ℕ, zero, suc, _-_, _/_, _%_, _≤_}
 use native.Mathlib.Omega.{arith}
@@ -19,7 +20,8 @@ use Rattle.demands.specs.Stated.{ofReading, ofStepping}
 use Rattle.register.proofs.FirstWrong.{Names, names-first}
 use Rattle.rules.specs.Answers.{stationAfter}
 use Rattle.rules.specs.Layout.{entries, entryStart, reportIn}
-use Rattle.rules.specs.Register.{after, asReplayed, entryAnswer, firstWrong, headAnswer, lengthAnswer, readAnswer, readOf, readingOf, registerAnswer, replayAnswer, stepAnswer, stepOf}
+use Rattle.rules.specs.Register.{after, asReplayed, entryAnswer, firstWrong, headAnswer, lengthAnswer, readAnswer}
+use Rattle.rules.specs.Register.{readOf, readingOf, registerAnswer, replayAnswer, stepAnswer, stepOf}
 use Rattle.rules.specs.Station.{freshStation, leastSettings, made, settingsAnswer}
 use Rattle.rules.specs.Words.{_if_then_, _▷_}
 
@@ -54,7 +56,8 @@ module _ (b : List ℕ) where
   pub read-names-one : readOf b .answer ≡ 13 → readOf b .entry ≡ 0 → ⊥
   unfolding readOf readingOf
   read-names-one e q =
-      wrong-named b (entries b) (in-its-case (ofReading b) _ 13 (stated-reading b) e) (sym (named (entries b) (readAnswer b) e) ∙ q)
+      wrong-named b (entries b) (in-its-case (ofReading b) _ 13 (stated-reading b) e)
+      (sym (named (entries b) (readAnswer b) e) ∙ q)
 
   pub step-names-one : (k : ℕ) → stepOf b k .answer ≡ 13 → stepOf b k .entry ≡ 0 → ⊥
   unfolding stepOf readingOf
@@ -76,7 +79,10 @@ module _ (b b′ : List ℕ) where
   wrong-apart zero e = refl
   wrong-apart (suc k) e =
       let before = same-first (entryStart k) (entryStart (suc k)) b b′ (omega arith) e in
-      λ i. wrong-apart k before i ▷ suc k if not (asReplayed (same-entry (entryStart (suc k)) k b b′ e (omega arith) i) (after-apart k before i)) then 0
+      λ i.
+      wrong-apart k before i
+      ▷ suc k if not (asReplayed (same-entry (entryStart (suc k)) k b b′ e (omega arith) i) (after-apart k before i))
+      then 0
 
   module _ (k : ℕ) (e : take (entryStart k) b ≡ take (entryStart k) b′) where
     -- where the registers are answered alike, and both have the row or neither
@@ -107,14 +113,16 @@ module _ (b b′ : List ℕ) where
     step-apart l = step-from (register-apart l) (λ i. ltb ((l i - 16) / 8) k)
 
     -- and registers of any length that pass their tests and have the row, as one that has grown since.
-    pub step-grown : registerAnswer b ≡ 0 → registerAnswer b′ ≡ 0 → k ≤ entries b → k ≤ entries b′ → stepOf b k ≡ stepOf b′ k
+    pub step-grown : registerAnswer b ≡ 0 → registerAnswer b′ ≡ 0 → k ≤ entries b → k ≤ entries b′
+        → stepOf b k ≡ stepOf b′ k
     step-grown z z′ h h′ = step-from (z ∙ sym z′) (le-ltb (entries b) k h ∙ sym (le-ltb (entries b′) k h′))
 
 -- Stepping to the last row is reading,
 pub step-last : (b : List ℕ) → stepOf b (entries b) ≡ readOf b
 unfolding stepOf readOf stepAnswer readAnswer _if_then_ _▷_
 step-last b =
-    ap (λ (t : Bool). readingOf b (entries b) (registerAnswer b ▷ (14 if t then 0) ▷ replayAnswer b (entries b))) (le-ltb (entries b) (entries b) (omega arith))
+    ap (λ (t : Bool). readingOf b (entries b) (registerAnswer b ▷ (14 if t then 0) ▷ replayAnswer b (entries b)))
+    (le-ltb (entries b) (entries b) (omega arith))
 
 -- and stepping to row k is reading the register as it was when row k was the last.
 module _ (b : List ℕ) (k : ℕ) (z : registerAnswer b ≡ 0) (h : k ≤ entries b) where

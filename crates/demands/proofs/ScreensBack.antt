@@ -14,9 +14,11 @@ use Rattle.demands.proofs.FiveDigits.{all-five, count-fives, joined-fiv
 use Rattle.demands.proofs.MessageTexts.{trackText, written-length}
 use Rattle.demands.proofs.NumberTexts.{decimal-number, decimal-ours}
 use Rattle.demands.proofs.PlainTexts.{all-so, bare, follows, no-blanks, plain-list, plain-member}
-use Rattle.demands.specs.Screens.{All, Five, Fits, MessageIs, Says, numberValue, objectOf, trackValue, tracksValue}
+use Rattle.demands.specs.Screens.{All, Five, Fits, MessageIs, Says, numberValue}
+use Rattle.demands.specs.Screens.{objectOf, trackValue, tracksValue}
 use Rattle.rules.specs.Printer.{decimal}
-use Rattle.rules.specs.Screen.{andThen, aspectName, each, fives, listOf, listed, membersOf, messageFits, numberOf, padded, provided, stationName, trackOf, tracksFit, tracksName, tracksOf, written}
+use Rattle.rules.specs.Screen.{andThen, aspectName, each, fives, listOf, listed, membersOf, messageFits, numberOf}
+use Rattle.rules.specs.Screen.{padded, provided, stationName, trackOf, tracksFit, tracksName, tracksOf, written}
 use Rattle.rules.specs.Words.{any}
 use Rattle.rules.specs.declared.Message.{Message}
 use Rattle.rules_json.specs.Abnf.{Rule, octets, row, _then_}

@@ -17,8 +17,10 @@ use Rattle.demands.proofs.ScreensBack.{tracks-back}
 use Rattle.demands.proofs.ScreensRead.{given, whole}
 use Rattle.demands.proofs.StationMessage.{padded-fits}
 use Rattle.demands.proofs.ValueForms.{Held, first-held, given-then, members-held, number-form, tracks-form}
-use Rattle.demands.specs.Screens.{AspectIs, Fits, Lacking, Members, MessageIs, Says, StationIs, TracksAre, numberValue}
-use Rattle.rules.specs.Screen.{andThen, aspectIn, aspectName, first, isThere, membersOf, messageIn, numberOf, orElse, padded, received, stationIn, stationName, tracksIn, tracksFit, tracksName, tracksOf}
+use Rattle.demands.specs.Screens.{AspectIs, Fits, Lacking, Members, MessageIs}
+use Rattle.demands.specs.Screens.{Says, StationIs, TracksAre, numberValue}
+use Rattle.rules.specs.Screen.{andThen, aspectIn, aspectName, first, isThere, membersOf, messageIn, numberOf, orElse}
+use Rattle.rules.specs.Screen.{padded, received, stationIn, stationName, tracksIn, tracksFit, tracksName, tracksOf}
 use Rattle.rules.specs.declared.Message.{Message}
 use Rattle.rules.specs.declared.Received.{Received}
 use Rattle.rules_json.specs.Grammar.{DeepValue, joined}

@@ -12,7 +12,9 @@ use lib.ListN.{length}
 use Rattle.chains.proofs.Chains.{both, where-refused}
 use Rattle.demands.specs.Screens.{Members, Readable, Says, isOurs, named, onlyOurs}
 use Rattle.json_exact.proofs.Text.{complete, sound}
-use Rattle.rules.specs.Screen.{andThen, aspectIn, aspectName, first, isTaken, isThere, membersOf, messageIn, noMessage, numberOf, orElse, ours, padded, readingAnswer, received, same, stationIn, stationName, tracksIn, tracksName, tracksOf}
+use Rattle.rules.specs.Screen.{andThen, aspectIn, aspectName, first, isTaken, isThere, membersOf, messageIn}
+use Rattle.rules.specs.Screen.{noMessage, numberOf, orElse, ours, padded, readingAnswer, received, same}
+use Rattle.rules.specs.Screen.{stationIn, stationName, tracksIn, tracksName, tracksOf}
 use Rattle.rules.specs.Words.{_if_then_}
 use Rattle.rules.specs.declared.Received.{Received}
 use Rattle.rules_json.specs.Grammar.{joined}

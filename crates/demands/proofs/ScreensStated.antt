@@ -12,7 +12,8 @@ use Rattle.demands.proofs.ScreensRead.{said, takes, whole}
 use Rattle.demands.specs.Exactly.{GivenExactly, otherwise, _when_then_}
 use Rattle.demands.specs.Screens.{Lacking, Readable, Says}
 use Rattle.demands.specs.Stated.{ofReceiving, ofWriting}
-use Rattle.rules.specs.Screen.{isTaken, membersOf, messageFits, ours, readingAnswer, received, writingAnswer, written, writtenOf}
+use Rattle.rules.specs.Screen.{isTaken, membersOf, messageFits, ours, readingAnswer}
+use Rattle.rules.specs.Screen.{received, writingAnswer, written, writtenOf}
 use Rattle.rules.specs.declared.Message.{Message}
 use Rattle.rules_json.specs.Tree.{Tree}
 

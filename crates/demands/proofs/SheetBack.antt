@@ -1,5 +1,6 @@
--- Document 01, "The matrix printer", and "Easy to get wrong": keeping rows that follow the live station. The sheet of a register that was started and
--- filled has a line for each report, with the zones, the outputs and the answer as the rules give them after it.
+-- Document 01, "The matrix printer", and "Easy to get wrong": keeping rows that follow the live station. The
+-- sheet of a register that was started and filled has a line for each report, with the zones, the outputs and the
+-- answer as the rules give them after it.
 -- Assumes nothing.
 use Prim.Native.Nat.{ℕ, zero, suc, _≤_}
 use native.Mathlib.Omega.{arith}
@@ -31,14 +32,20 @@ module _ (f : Filling) (n : ℕ) (room : Room f n) where
       λ i.
       same-lines k (omega arith) i
       ++ rowLine
-      (record { entry = suc k; zones = zonesOf (after i); outputs = outputsOf (aspectOf (after i)); answer = answerOf (before i) (report i) })
+      (record {
+        entry = suc k;
+        zones = zonesOf (after i);
+        outputs = outputsOf (aspectOf (after i));
+        answer = answerOf (before i) (report i);
+      })
 
   pub sheet-back : printed (register f n) ≡ title ++ lines f n
   unfolding printed sheetOf
   sheet-back =
       let b = register f n in
       let done : readOf b .answer ≡ 0 = ap (λ (r : Reading). r .answer) (read-back f n room .whole) in
-      ap (λ (t : Bool). cond t (refusalLine 12 0) (sheetOf b)) (le-ltb 65536 (length b) (omega (arith, filled-length f n room, room .few)))
+      ap (λ (t : Bool). cond t (refusalLine 12 0) (sheetOf b))
+      (le-ltb 65536 (length b) (omega (arith, filled-length f n room, room .few)))
       ∙ where-done (readOf b .answer) _ (refusalLine (readOf b .answer) (readOf b .entry)) done
       ∙ (λ i. title ++ rowLines b (filled-entries f n room i))
       ∙ ap (λ l. title ++ l) (same-lines n (omega arith))

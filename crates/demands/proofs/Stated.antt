@@ -1,5 +1,6 @@
--- Document 01, "The numbers it answers", and demand 1: "Any report, setting or register is taken or refused by a number, .. Each number is given in its
--- stated case only." The tests stand here as in the definitions, each with the words of the table.
+-- Document 01, "The numbers it answers", and demand 1: "Any report, setting or register is taken or refused
+-- by a number, .. Each number is given in its stated case only." The tests stand here as in the
+-- definitions, each with the words of the table.
 -- Assumes nothing.
 use Prim.Native.Nat.{ℕ, zero, suc, _+_, _*_, _-_, _%_}
 use native.Mathlib.Decide.{ℕ-discrete}
@@ -9,16 +10,20 @@ use mathlib.Core.List.{List, [], _∷_}
 use borrow.Author.Tests.{not-false}
 use lib.ListN.{length}
 use Rattle.chains.proofs.Chains.{both-done, neither, passed, same-order}
-use Rattle.demands.proofs.Exactly.{Row, Tests, at-most, below, equal, exactly, group, in-words, is, isnt, unequal, _and_, _before_, _on_, _or_}
+use Rattle.demands.proofs.Exactly.{Row, Tests, at-most, below, equal, exactly, group, in-words}
+use Rattle.demands.proofs.Exactly.{is, isnt, unequal, _and_, _before_, _on_, _or_}
 use Rattle.demands.proofs.ScreensStated.{stated-receiving, stated-writing}
 use Rattle.demands.specs.Exactly.{GivenExactly}
-use Rattle.demands.specs.Stated.{AsStated, SomeWrong, ofAppending, ofHandingBack, ofLimits, ofReading, ofStarting, ofStepping, ofTaking}
+use Rattle.demands.specs.Stated.{AsStated, SomeWrong, ofAppending, ofHandingBack, ofLimits}
+use Rattle.demands.specs.Stated.{ofReading, ofStarting, ofStepping, ofTaking}
 use Rattle.register.proofs.FirstWrong.{names-first, none-wrong}
 use Rattle.reports.proofs.ByNumber.{not-blocked}
-use Rattle.rules.specs.Answers.{already, answerOf, blocked, formAnswer, namesHead, namesIsland, placeAnswer, stateAnswer, taken, wrongFields}
+use Rattle.rules.specs.Answers.{already, answerOf, blocked, formAnswer, namesHead, namesIsland}
+use Rattle.rules.specs.Answers.{placeAnswer, stateAnswer, taken, wrongFields}
 use Rattle.rules.specs.Kinds.{kindOf}
 use Rattle.rules.specs.Layout.{entries, hasMark, settingsIn, versionIn}
-use Rattle.rules.specs.Register.{appendAnswer, appended, entryAnswer, firstWrong, headAnswer, lengthAnswer, readAnswer, readOf, readingOf, registerAnswer, sameSettings, startAnswer, stepAnswer, stepOf}
+use Rattle.rules.specs.Register.{appendAnswer, appended, entryAnswer, firstWrong, headAnswer, lengthAnswer, readAnswer}
+use Rattle.rules.specs.Register.{readOf, readingOf, registerAnswer, sameSettings, startAnswer, stepAnswer, stepOf}
 use Rattle.rules.specs.Reports.{namedIsland}
 use Rattle.rules.specs.Siting.{advanceSited, messageGood, speedGood, tracksGood, warningSited}
 use Rattle.rules.specs.Station.{made, obstructed, settingsAnswer, withinLimits}
@@ -78,7 +83,8 @@ pub stated-settings : (c : Settings) → GivenExactly (ofLimits (withinLimits c)
 unfolding made settingsAnswer
 stated-settings c = exactly (limits (withinLimits c)) refl
 
-pub stated-advance : (v : ℕ) (m : Seconds) → GivenExactly (ofLimits (speedGood v && messageGood (m .0))) (advanceSited v m .answer)
+pub stated-advance : (v : ℕ) (m : Seconds)
+    → GivenExactly (ofLimits (speedGood v && messageGood (m .0))) (advanceSited v m .answer)
 unfolding advanceSited
 stated-advance v m = exactly (limits (speedGood v && messageGood (m .0))) refl
 
@@ -121,7 +127,8 @@ module _ (b : List ℕ) (k : ℕ) where
   pub stated-appending : (s : Station) (r : Report) → GivenExactly (ofAppending b k s r) (appended b k s r .answer)
   unfolding appended appendAnswer headAnswer formAnswer placeAnswer stateAnswer
   stated-appending s r =
-      subst (GivenExactly (ofAppending b k s r)) (same-order _ _ (own s r) (answerOf s r) refl (λ z. sym (report-own s r z)))
+      subst (GivenExactly (ofAppending b k s r))
+      (same-order _ _ (own s r) (answerOf s r) refl (λ z. sym (report-own s r z)))
       (exactly ((head b before group (fit (settingsIn b) (s .settings))) before report s r) refl)
 
 -- ---- reading, stepping and handing back
@@ -153,7 +160,8 @@ module _ (b : List ℕ) where
 
   pub stated-stepping : (k : ℕ) → GivenExactly (ofStepping b k) (stepOf b k .answer)
   unfolding stepOf readingOf stepAnswer registerAnswer headAnswer lengthAnswer settingsAnswer
-  stated-stepping k = exactly (register before group (14 on below (entries b) k ∷ []) before group (replayed k ∷ [])) refl
+  stated-stepping k =
+      exactly (register before group (14 on below (entries b) k ∷ []) before group (replayed k ∷ [])) refl
 
   pub stated-handing-back : (k : ℕ) → GivenExactly (ofHandingBack b k) (entryAnswer b k)
   unfolding entryAnswer registerAnswer headAnswer lengthAnswer settingsAnswer

@@ -14,10 +14,12 @@ use Rattle.demands.proofs.NumberForms.{decimal-again}
 use Rattle.demands.proofs.PlainTexts.{all-so}
 use Rattle.demands.specs.Screens.{All, Five, Members, Says, numberValue, trackValue, tracksValue}
 use Rattle.rules.specs.Printer.{decimal}
-use Rattle.rules.specs.Screen.{andThen, each, first, isEmpty, isThere, listOf, membersOf, numberAfter, numberOf, ourNumber, provided, same, trackOf, tracksFit, tracksOf}
+use Rattle.rules.specs.Screen.{andThen, each, first, isEmpty, isThere, listOf, membersOf, numberAfter}
+use Rattle.rules.specs.Screen.{numberOf, ourNumber, provided, same, trackOf, tracksFit, tracksOf}
 use Rattle.rules_json.specs.Abnf.{Rule, row, _then_}
 use Rattle.rules_json.specs.Grammar.{DeepValue, Items, MemberRule, Number, ValueRule, ValueSeparator}
-use Rattle.rules_json.specs.Tree.{Tree, Value, array, false-literal, null-literal, number, object, scalar, string, true-literal}
+use Rattle.rules_json.specs.Tree.{Tree, Value, array, false-literal, null-literal}
+use Rattle.rules_json.specs.Tree.{number, object, scalar, string, true-literal}
 
 -- ---- what gives something
 

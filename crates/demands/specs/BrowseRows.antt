@@ -1,5 +1,5 @@
--- Rows B8 and B9, for the words of specs/BrowseBack: a browser, as the struct has it, and its moves one after the other. What a move shows and where it
--- leads is tried in rules, B1 to B7.
+-- Rows B8 and B9, for the words of specs/BrowseBack: a browser, as the struct has it, and its moves one after the
+-- other. What a move shows and where it leads is tried in rules, B1 to B7.
 use Prim.Native.Nat.{ℕ}
 use mathlib.Core.List.{List, [], _∷_, _++_}
 use Rattle.browser.specs.Browsing.{opened}
@@ -14,10 +14,12 @@ use Rattle.rules.specs.rows.Row.{Row, rows, together}
 abbrev pub on : List ℕ → Browser
 on bytes = opened (record { ptr = (3, 7); name = 1; now = bytes })
 
--- for each move: its answer, its count and the aspect of the station that it shows, and the row that the browser stands on then
+-- for each move: its answer, its count and the aspect of the station that it shows, and the row
+-- that the browser stands on then
 abbrev pub walk : Browser → List Move → List ℕ
 walk w [] = []
-walk w (m ∷ ms) = shown w m .answer ∷ shown w m .count ∷ aspectOf (shown w m .station) ∷ moved w m .row ∷ walk (moved w m) ms
+walk w (m ∷ ms) =
+    shown w m .answer ∷ shown w m .count ∷ aspectOf (shown w m .station) ∷ moved w m .row ∷ walk (moved w m) ms
 
 -- where the register lies that the browser holds
 abbrev pub place : Browser → List ℕ
@@ -30,6 +32,8 @@ browseRows =
     ++ rows 8 (place (afterMoves (on sound) (to 4 ∷ back ∷ to 9 ∷ forward ∷ []))) (3 ∷ 7 ∷ [])
     -- moves come one after the other
     ++ rows 8 (afterMoves (on sound) (to 4 ∷ back ∷ []) .row ∷ []) (3 ∷ [])
-    -- B9: a move goes by the register that is held and by the row that the browser stands on, which a refused one leaves
+    -- B9: a move goes by the register that is held and by the row that the browser stands on,
+    -- which a refused one leaves
     ++ rows 9 (walk (on sound) (to 3 ∷ forward ∷ back ∷ back ∷ to 6 ∷ back ∷ []))
-    (together ((0 ∷ 3 ∷ 1 ∷ 3 ∷ []) ∷ (0 ∷ 4 ∷ 2 ∷ 4 ∷ []) ∷ (0 ∷ 3 ∷ 1 ∷ 3 ∷ []) ∷ (0 ∷ 2 ∷ 1 ∷ 2 ∷ []) ∷ (14 ∷ 0 ∷ 5 ∷ 2 ∷ []) ∷ (0 ∷ 1 ∷ 0 ∷ 1 ∷ []) ∷ []))
+    (together ((0 ∷ 3 ∷ 1 ∷ 3 ∷ []) ∷ (0 ∷ 4 ∷ 2 ∷ 4 ∷ []) ∷ (0 ∷ 3 ∷ 1 ∷ 3 ∷ []) ∷ (0 ∷ 2 ∷ 1 ∷ 2 ∷ [])
+    ∷ (14 ∷ 0 ∷ 5 ∷ 2 ∷ []) ∷ (0 ∷ 1 ∷ 0 ∷ 1 ∷ []) ∷ []))

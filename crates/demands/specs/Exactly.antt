@@ -1,4 +1,5 @@
--- Document 01, "The numbers it answers": "given exactly when", and "Order". Numbers with their cases, in the order in which they are tested.
+-- Document 01, "The numbers it answers": "given exactly when", and "Order". Numbers with their cases,
+-- in the order in which they are tested.
 use Prim.Native.Nat.{ℕ}
 use mathlib.Core.Logic.{_↔_}
 use mathlib.Core.Path.{_≡_}
@@ -13,7 +14,8 @@ pub data Cases : Type 1 where
   _when_then_ : ℕ → Type 0 → Cases → Cases
   otherwise : ℕ → Cases
 
--- A number is answered exactly when its case holds and none before it does, and the last one exactly when no case holds.
+-- A number is answered exactly when its case holds and none before it does, and the last one
+-- exactly when no case holds.
 abbrev pub GivenAfter : Type 0 → Cases → ℕ → Type 0
 GivenAfter noneBefore (n when case then rest) answer =
     (answer ≡ n ↔ (noneBefore × case)) × GivenAfter (noneBefore × (case → ⊥)) rest answer

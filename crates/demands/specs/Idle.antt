@@ -1,5 +1,6 @@
--- Document 01, "How firm each statement is": four of the five idle versions that have to be shut out, each a machine. The fifth, with a made-up number
--- of entries read, is in specs/ReadBack. Then two answers to a report that demand 1 shuts out.
+-- Document 01, "How firm each statement is": four of the five idle versions that have to be shut out,
+-- each a machine. The fifth, with a made-up number of entries read, is in specs/ReadBack. Then two
+-- answers to a report that demand 1 shuts out.
 use Prim.Native.Nat.{ℕ}
 use mathlib.Core.Bool.{Bool, true, false, cond, _&&_}
 use lib.Dec.{ltb}
@@ -16,17 +17,21 @@ use Rattle.rules.specs.rows.Machine.{Machine}
 
 -- One that refuses everything.
 abbrev pub refusesAll : Machine
-refusesAll = record { State = Station; make = λ c. made c .station; answer = λ s r. 8; after = λ s r. s; aspect = aspectOf }
+refusesAll =
+    record { State = Station; make = λ c. made c .station; answer = λ s r. 8; after = λ s r. s; aspect = aspectOf }
 
 -- One that always shows aspect 5.
 abbrev pub alwaysFive : Machine
-alwaysFive = record { State = Station; make = λ c. made c .station; answer = answerOf; after = stationAfter; aspect = λ s. 5 }
+alwaysFive =
+    record { State = Station; make = λ c. made c .station; answer = answerOf; after = stationAfter; aspect = λ s. 5 }
 
 -- One that keeps the station unchanged.
 abbrev pub keepsStation : Machine
-keepsStation = record { State = Station; make = λ c. made c .station; answer = answerOf; after = λ s r. s; aspect = aspectOf }
+keepsStation =
+    record { State = Station; make = λ c. made c .station; answer = answerOf; after = λ s r. s; aspect = aspectOf }
 
--- One that follows the first report and then coasts: a station, and whether a report has been followed. The first report is taken as ours takes it;
+-- One that follows the first report and then coasts: a station, and whether a report has been followed. The
+-- first report is taken as ours takes it;
 -- later ones are answered 0 and change nothing.
 pub record Coasting : Type 0 where
   pub station : Station

@@ -28,7 +28,10 @@ givesZeros s = record { answer = received s .answer; message = noMessage }
 
 -- One that gives the last of each of ours.
 abbrev pub givesLast : List ℕ → Received
-givesLast s = record { answer = received s .answer; message = cond (eqb (received s .answer) 0) (messageIn (reverse (ours s))) noMessage }
+givesLast s = record {
+  answer = received s .answer;
+  message = cond (eqb (received s .answer) 0) (messageIn (reverse (ours s))) noMessage;
+}
 
 -- ---- texts at which they fall
 

@@ -1,6 +1,7 @@
--- Demand 3: "No lamp is stuck. Take any station reached by any reports. Let only clock reports, head reports and refused ones follow. Once the clock has
--- gone the longer of two times, T5 alone or T4 plus the greatest of T1, T2 and T3, the aspect is settled and stays so: out of service if a fault was
--- latched when the quiet began or a warning island is occupied; otherwise orange if any island is occupied; otherwise green."
+-- Demand 3: "No lamp is stuck. Take any station reached by any reports. Let only clock reports, head reports and
+-- refused ones follow. Once the clock has gone the longer of two times, T5 alone or T4 plus the greatest of T1, T2 and
+-- T3, the aspect is settled and stays so: out of service if a fault was latched when the quiet began or a warning
+-- island is occupied; otherwise orange if any island is occupied; otherwise green."
 use Prim.Native.Nat.{ℕ, _+_, max, _≤_}
 use mathlib.Core.Path.{_≡_}
 use mathlib.Core.Bool.{Bool, true, cond, not, _&&_, _||_}
@@ -63,7 +64,8 @@ longEnough c = max (c .t5) (c .t4 + greatest c)
 abbrev pub warningOccupied : Track → Bool
 warningOccupied t = anyIsland (λ z i. isWarning z && i .occupied) t
 
--- Out of service if a fault was latched when the quiet began or a warning island is occupied; otherwise orange if any island is occupied; otherwise green:
+-- Out of service if a fault was latched when the quiet began or a warning island is occupied; otherwise orange if
+-- any island is occupied; otherwise green:
 -- aspects 5, 4 and 0.
 abbrev pub settled : Bool → Station → ℕ
 settled latched s =
@@ -71,8 +73,8 @@ settled latched s =
     4 if any someOccupied (live s) then
     0
 
--- From a station on, where only such reports follow: once the clock has gone long enough the aspect is settled and stays so, the same after every longer
--- continuation.
+-- From a station on, where only such reports follow: once the clock has gone long enough the aspect is settled and
+-- stays so, the same after every longer continuation.
 pub record NotStuck (s : Station) : Type 0 where
   pub settles : (rs : List Report) → Quiet s rs ≡ true → longEnough (s .settings) ≤ clockGone s rs
       → aspectOf (afterAll s rs) ≡ settled (s .fault) (afterAll s rs)

@@ -1,5 +1,7 @@
--- Demand 2: "A register that we start and fill reads back to the same rows, and stepping back to any row gives the station as it was after that row."
--- Here of the register that is recorded of a planner's text: it reads back to the reports that the text says, in their order.
+-- Demand 2: "A register that we start and fill reads back to the same rows, and stepping back to any row gives
+-- the station as it was after that row."
+-- Here of the register that is recorded of a planner's text: it reads back to the reports that
+-- the text says, in their order.
 use Prim.Native.Nat.{ℕ, _-_, _≤_, _<_}
 use mathlib.Core.Path.{_≡_}
 use mathlib.Core.Bool.{true, cond}
@@ -74,12 +76,13 @@ pub record RecordedBack (text lent : List ℕ) : Type 0 where
   pub settings : withinLimits (checked text .said .settings) ≡ true
   pub settingsGiven : (name : ℕ) → name < 6 → Named (linesOf text) name
   pub settingsSaid : (k : ℕ) → k < length (linesOf text) → isSetting (lineAt (linesOf text) k) ≡ true
-      → settingNamed (checked text .said .settings) (lineAt (linesOf text) k .name) ≡ numberSaid (lineAt (linesOf text) k)
+      → settingNamed (checked text .said .settings) (lineAt (linesOf text) k .name)
+      ≡ numberSaid (lineAt (linesOf text) k)
   -- The bytes lent hold the register of the text's settings and reports, and behind it what they held before.
   pub bytes : take (entryStart (countOf text)) (recordedBytes text lent) ≡ register (fillingOf text lent) (countOf text)
   pub beyond : drop (entryStart (countOf text)) (recordedBytes text lent) ≡ drop (entryStart (countOf text)) lent
-  -- It reads back: each row's entry is the report that the text says there, with the answer and the aspect of the rules, and stepping to any row
-  -- gives the station after so many of the text's reports.
+  -- It reads back: each row's entry is the report that the text says there, with the answer and the aspect of the
+  -- rules, and stepping to any row gives the station after so many of the text's reports.
   pub back : ReadsBack ours (fillingOf text lent) (countOf text)
 
 -- A line is a report, and this one.
@@ -93,7 +96,8 @@ pub record LinesRecorded (text rows : List ℕ) : Type 0 where
   pub beyond : drop (countOf text) (recordedLines text rows) ≡ drop (countOf text) rows
   pub size : length (recordedLines text rows) ≡ length rows
   -- The line whose number stands at a row's place says the row's report.
-  pub says : (k : ℕ) → k < countOf text → Says (lineNumbered (linesOf text) (getD (recordedLines text rows) k 0)) (reportAt text k)
+  pub says : (k : ℕ) → k < countOf text
+      → Says (lineNumbered (linesOf text) (getD (recordedLines text rows) k 0)) (reportAt text k)
 
 -- ---- and of a text with something wrong: nothing
 

@@ -1,5 +1,6 @@
--- Document 02, request 1, "Aspect to the passenger screens": what is claimed of the texts that are read and of the message that is written, of any bytes
--- and any message. The numbers that they are answered with, each in its case, are in Stated.
+-- Document 02, request 1, "Aspect to the passenger screens": what is claimed of the texts that are read
+-- and of the message that is written, of any bytes and any message. The numbers that they are answered
+-- with, each in its case, are in Stated.
 use Prim.Native.Nat.{ℕ, _≤_}
 use mathlib.Core.Logic.{_⊎_, _↔_}
 use mathlib.Core.Path.{_≡_}
@@ -8,7 +9,8 @@ use mathlib.Core.List.{List, [], _∷_, _++_, map}
 use mathlib.Core.Option.{some}
 use lib.ListN.{drop, length, take}
 use Rattle.rules.specs.Printer.{decimal}
-use Rattle.rules.specs.Screen.{afterWriting, aspectName, first, fives, isTaken, membersOf, messageFits, messageOf, noMessage, padded, received, same, stationName, tracksName, written, writtenOf}
+use Rattle.rules.specs.Screen.{afterWriting, aspectName, first, fives, isTaken, membersOf, messageFits, messageOf}
+use Rattle.rules.specs.Screen.{noMessage, padded, received, same, stationName, tracksName, written, writtenOf}
 use Rattle.rules.specs.Words.{any}
 use Rattle.rules.specs.declared.Message.{Message}
 use Rattle.rules.specs.declared.Station.{Station}
@@ -16,7 +18,8 @@ use Rattle.rules_json.specs.Grammar.{Text, blank, joined}
 use Rattle.rules_json.specs.Reader.{textSaid}
 use Rattle.rules_json.specs.Tree.{Member, Tree, Value, array, number, object, scalar}
 
--- ---- "any RFC 8259 text in UTF-8 of at most 4,096 bytes in which lists and objects stand at most 8 deep, each inside the other"
+-- ---- "any RFC 8259 text in UTF-8 of at most 4,096 bytes in which lists and objects stand at
+-- most 8 deep, each inside the other"
 
 -- such a text, and what it says, by the rules of the RFC
 abbrev pub Says : Tree 8 → List ℕ → Type 0
@@ -25,7 +28,8 @@ Says x s = Text 8 x s × (length s ≤ 4096)
 abbrev pub Readable : List ℕ → Type 0
 Readable s = (x : Tree 8) × Says x s
 
--- ---- "members `station` (0 to 65535), `aspect` (0 to 5) and `tracks`, a list of one to four lists of five digits (0 occupied, 1 free)"
+-- ---- "members `station` (0 to 65535), `aspect` (0 to 5) and `tracks`, a list of one to four
+-- lists of five digits (0 occupied, 1 free)"
 
 -- "Our numbers bear no sign, fraction or exponent": they are spelt as we write them
 abbrev pub numberValue : {A : Type 0} → ℕ → Value A
@@ -72,7 +76,8 @@ abbrev pub MessageIs : Message → Members → Type 0
 MessageIs m members =
     StationIs (m .station) members
     × AspectIs (m .aspect) members
-    × ((tracks : List (List ℕ)) × TracksAre tracks members × (m .tracks ≡ length tracks) × (m .digits ≡ padded (joined tracks)))
+    × ((tracks : List (List ℕ)) × TracksAre tracks members × (m .tracks ≡ length tracks)
+    × (m .digits ≡ padded (joined tracks)))
 
 -- ---- "skips members it does not know", "the first of each of ours", "names compared after escapes"
 
@@ -111,14 +116,17 @@ pub record Reads : Type 0 where
   pub reads : (s : List ℕ) (x : Tree 8) → Says x s → textSaid 8 s ≡ x
   pub saysOne : (s : List ℕ) (x y : Tree 8) → Says x s → Says y s → x ≡ y
   -- "and gives back the first of each of ours": a message exactly where they are that message
-  pub gives : (s : List ℕ) (m : Message) → received s ≡ record { answer = 0; message = m } ↔ ((x : Tree 8) × Says x s × MessageIs m (membersOf x))
+  pub gives : (s : List ℕ) (m : Message)
+      → received s ≡ record { answer = 0; message = m } ↔ ((x : Tree 8) × Says x s × MessageIs m (membersOf x))
   -- (which fits, so that it can be written)
   pub fits : (s : List ℕ) (m : Message) → received s ≡ record { answer = 0; message = m } → Fits m
   -- "A refused reading gives zeros and no tracks."
   pub refused : (s : List ℕ) → (received s .answer ≡ 0 → ⊥) → received s .message ≡ noMessage
-  -- "with members and blanks added": texts that say the same, with whatever blanks and escapes; and that say the same of ours
+  -- "with members and blanks added": texts that say the same, with whatever blanks and escapes;
+  -- and that say the same of ours
   pub blanks : (s t : List ℕ) (x : Tree 8) → Says x s → Says x t → received s ≡ received t
-  pub skips : (s t : List ℕ) (x y : Tree 8) → Says x s → Says y t → onlyOurs (membersOf x) ≡ onlyOurs (membersOf y) → received s ≡ received t
+  pub skips : (s t : List ℕ) (x y : Tree 8) → Says x s → Says y t → onlyOurs (membersOf x) ≡ onlyOurs (membersOf y)
+      → received s ≡ received t
   -- "the first of each": one more of a name that stands before it changes nothing
   pub firstOfEach : (s t : List ℕ) (before after : Members) (m : Member (Tree 7)) → Says (object (before ++ after)) s
       → Says (object (before ++ (m ∷ after))) t
@@ -136,7 +144,8 @@ pub record Writes : Type 0 where
   pub backFrom : (m : Message) (b : List ℕ) → length (m .digits) ≡ 20 → writtenOf m (length b) .answer ≡ 0
       → received (take (writtenOf m (length b) .length) (afterWriting m b)) ≡ record { answer = 0; message = m }
   -- "Writing touches no byte past the text"
-  pub past : (m : Message) (b : List ℕ) → (drop (writtenOf m (length b) .length) (afterWriting m b) ≡ drop (writtenOf m (length b) .length) b)
+  pub past : (m : Message) (b : List ℕ)
+      → (drop (writtenOf m (length b) .length) (afterWriting m b) ≡ drop (writtenOf m (length b) .length) b)
       × (length (afterWriting m b) ≡ length b)
   -- "with length 0 and nothing written"
   pub refused : (m : Message) (b : List ℕ) → (writtenOf m (length b) .answer ≡ 0 → ⊥)

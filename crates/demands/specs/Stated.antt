@@ -1,6 +1,7 @@
--- Document 01, "The numbers it answers", and demand 1: "Any report, setting or register is taken or refused by a number, .. Each number is given in its
--- stated case only." For each thing that is answered: the numbers that it can be answered with, each with its case in the table's words, in the order
--- of "Order"; and so for the texts and messages of document 02, request 1. At the end, that each answer is given so.
+-- Document 01, "The numbers it answers", and demand 1: "Any report, setting or register is taken or refused by a
+-- number, .. Each number is given in its stated case only." For each thing that is answered: the numbers that it can be
+-- answered with, each with its case in the table's words, in the order of "Order"; and so for the texts and messages of
+-- document 02, request 1. At the end, that each answer is given so.
 use Prim.Native.Nat.{ℕ, _+_, _*_, _-_, _%_, _≤_, _<_}
 use mathlib.Core.Logic.{_⊎_}
 use mathlib.Core.Path.{_≡_}
@@ -134,7 +135,8 @@ ofStepping b k =
 
 -- ---- document 02, request 1: a text that is read, and a message that is written into a buffer of so many bytes
 
--- "15 not RFC 8259 text, too long or too deep; 16 one of our members missing, of another form or outside its range; in that order"
+-- "15 not RFC 8259 text, too long or too deep; 16 one of our members missing, of another form
+-- or outside its range; in that order"
 abbrev pub ofReceiving : List ℕ → Cases
 ofReceiving s =
     15 when (Readable s → ⊥) then
@@ -158,13 +160,15 @@ pub record AsStated : Type 0 where
   pub settings : (c : Settings) → GivenExactly (ofLimits (withinLimits c)) (made c .answer)
   pub settingsAsked : (c : Settings) → GivenExactly (ofLimits (withinLimits c)) (settingsAnswer c)
   -- The advance distance, of a speed and the seconds of the message.
-  pub advance : (v : ℕ) (m : Seconds) → GivenExactly (ofLimits (speedGood v && messageGood (m .0))) (advanceSited v m .answer)
+  pub advance : (v : ℕ) (m : Seconds)
+      → GivenExactly (ofLimits (speedGood v && messageGood (m .0))) (advanceSited v m .answer)
   -- The warning distance, of a speed and a number of tracks.
   pub warning : (v n : ℕ) → GivenExactly (ofLimits (speedGood v && tracksGood n)) (warningSited v n .answer)
   -- A register that is started in the bytes lent.
   pub starting : (c : Settings) (b : List ℕ) → GivenExactly (ofStarting c b) (startAnswer c b)
   -- A report that is appended as entry k.
-  pub appending : (b : List ℕ) (k : ℕ) (s : Station) (r : Report) → GivenExactly (ofAppending b k s r) (appended b k s r .answer)
+  pub appending : (b : List ℕ) (k : ℕ) (s : Station) (r : Report)
+      → GivenExactly (ofAppending b k s r) (appended b k s r .answer)
   -- A register that is read.
   pub reading : (b : List ℕ) → GivenExactly (ofReading b) (readOf b .answer)
   -- Row k of a register, handed back.

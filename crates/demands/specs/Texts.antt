@@ -1,6 +1,8 @@
--- What is wrong with a planner's text, as a number from 1 to 11, and on which line. Of a line's words by themselves, of a line where it stands, and
--- of the end of a text: the numbers with their cases, in the words of rules_plan and in the order in which they are tested. Then what is claimed:
--- each number is given exactly when its case holds and none before it does, and the first line that is at fault decides.
+-- What is wrong with a planner's text, as a number from 1 to 11, and on which line. Of a line's words by themselves, of
+-- a line where it stands, and of the end of a text: the numbers with their cases, in the words of rules_plan and in the
+-- order in which they are tested. Then what is claimed:
+-- each number is given exactly when its case holds and none before it does, and the first line
+-- that is at fault decides.
 use Prim.Native.Nat.{ℕ, suc, _≤_, _<_}
 use mathlib.Core.Logic.{_↔_}
 use mathlib.Core.Path.{_≡_}

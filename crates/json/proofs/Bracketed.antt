@@ -22,7 +22,7 @@ use Rattle.rules_json.specs.Reader.{
   opening,
 }
 use Rattle.json.proofs.Ending.{ending, ending-fails, ending-last, ending-on, ending-over, whole-ending}
-use Rattle.json.proofs.Places.{in-text, measured-behind, octet-behind}
+use Rattle.json.proofs.Places.{found-in-text, measured-behind, octet-behind}
 use Rattle.json.proofs.Turning.{Grows, Turning}
 
 either-fails : (t : Bool) → cond t fails fails ≡ fails
@@ -60,7 +60,7 @@ pub record Item (item : List ℕ → ℕ) (text : List ℕ) (place next found : 
 -- that octet stands in the text, unless it is 0
 pub inside : {item : List ℕ → ℕ} {text : List ℕ} {place next found : ℕ} → Item item text place next found
     → (found ≡ 0 → ⊥) → next < length text
-inside {text = text} {next = next} i h = in-text text next (λ e. h (i .octet ∙ e))
+inside {text = text} {next = next} i h = found-in-text text next (i .octet) h
 
 -- ---- the opening bracket
 

@@ -31,6 +31,9 @@ module _ (text : List ℕ) (p : ℕ) where
   in-text h =
       by-test (ltb p (length text)) (ltb-true _ _) (λ e. absurd (h (List·getD-eq-default text 0 (ltb-false _ _ e))))
 
+  pub found-in-text : {found : ℕ} → found ≡ at text p → (found ≡ 0 → ⊥) → p < length text
+  found-in-text o h = in-text (λ e. h (o ∙ e))
+
   -- the octet found there
   module _ (class : ℕ → Bool) (found : ℕ) (e : found ≡ at text p) where
     pub first-is : (f : Bool → ℕ) (t : Bool) → class found ≡ t → p + f t ≡ p + f (class (at (drop p text) 0))

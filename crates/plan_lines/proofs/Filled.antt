@@ -8,7 +8,8 @@ use mathlib.Core.Path.{_≡_, ap, refl, sym, _∙_}
 use borrow.Author.Tests.{leb-true}
 use lib.Dec.{eqb, leb}
 use lib.ListN.{List·getD-eq-default, getD, length}
-use Rattle.plan_lines.specs.Behind.{anyReport, asByte, asSixteenBits, filledBy, filledEach, firstMost, firstNumber, numberFaultOf}
+use Rattle.plan_lines.specs.Behind.{anyReport, asByte, asSixteenBits, filledBy, filledEach}
+use Rattle.plan_lines.specs.Behind.{firstMost, firstNumber, numberFaultOf}
 use Rattle.plan_lines.specs.Behind.{rest, settingBy, sixFaults, sixMosts, sixNumbers}
 use Rattle.plan_lines.proofs.Numbered.{first-up-to, next-fault, no-more}
 use Rattle.rules.specs.OfEachKind.{clock, condition, failed, freed, normalised, occupied, report, restored}

@@ -1,4 +1,5 @@
--- The most that each number behind a name may be: by tests of the name what the table says, for each name; and what each name of the table keeps.
+-- The most that each number behind a name may be: by tests of the name what the table says, for each name;
+-- and what each name of the table keeps.
 -- Assumes nothing.
 use Prim.Native.Nat.{ℕ, suc, _<_}
 use mathlib.Core.Bool.{Bool, cond, false, not, true, _&&_, _||_}

@@ -27,7 +27,8 @@ found-least word =
     by-tests (not (isEmpty word) && not (any (λ b. not (digit b)) word)) (numberAfter 0 word)
     (leb (numberAfter 0 word) 65535) refl
   where
-    by-tests : (good : Bool) (n : ℕ) (t : Bool) → leb n 65535 ≡ t → orElse 65536 (provided (good && leb n 65535) n) < 65537
+    by-tests : (good : Bool) (n : ℕ) (t : Bool) → leb n 65535 ≡ t
+        → orElse 65536 (provided (good && leb n 65535) n) < 65537
     by-tests false n t e = omega arith
     by-tests true n true e = rw e (omega (arith, leb-true n 65535 e))
     by-tests true n false e = rw e (omega arith)

@@ -41,13 +41,18 @@ six-read first to-second to-third to-fourth to-fifth to-sixth a b c d e f =
 
 module _ (name : ℕ) (words : List (List ℕ)) {numbers : List ℕ} (read : numbers ≡ sixNumbers words) where
   pub line-said : {fault six : ℕ} {filled : Report} (most : List ℕ) → most ≡ sixMosts (mosts name)
-      → fault ≡ (notAName if eqb name otherWord then six) → six ≡ sixFaults most numbers → filled ≡ filledBy name numbers
+      → fault ≡ (notAName if eqb name otherWord then six) → six ≡ sixFaults most numbers
+      → filled ≡ filledBy name numbers
       → _≡_ {A = Line} (record { name = name; fault = fault; numbers = filled }) (lineSaid name words)
   unfolding lineSaid
   line-said most m f s n =
       let faults = s ∙ ap₂ sixFaults m read ∙ sym (faults-of-six name words) in
       let filled = n ∙ ap (filledBy name) read ∙ numbers-filled words name in
-      λ i. record { name = name; fault = (f ∙ ap (λ k. notAName if eqb name otherWord then k) faults) i; numbers = filled i }
+      λ i. record {
+        name = name;
+        fault = (f ∙ ap (λ k. notAName if eqb name otherWord then k) faults) i;
+        numbers = filled i;
+      }
 
 -- ---- a whole line
 
@@ -56,7 +61,8 @@ unfolding leading uncommented pieces
 spoken-is [] = refl
 spoken-is (b ∷ line) = sym (ap (λ all. getD all 0 []) (first-piece hash (b ∷ line) (λ z. omega arith)))
 
-module _ (line spoken : List ℕ) (start past : ℕ) (is : spoken ≡ uncommented line) (next : NextWord spoken 0 start past) where
+module _ (line spoken : List ℕ) (start past : ℕ) (is : spoken ≡ uncommented line)
+    (next : NextWord spoken 0 start past) where
   pub nothing-said : {numbers : Report} → start ≡ past → numbers ≡ report 0 0 0 0 0
       → _≡_ {A = Line} (record { name = 15; fault = 0; numbers = numbers }) (lineOf line)
   unfolding lineOf

@@ -89,6 +89,7 @@ words-none l e = no-word blank l e
 
 pub words-first : (l : List ℕ) → (leading notBlank (pastBlanks l) ≡ 0 → ⊥)
     → words l
-    ≡ take (leading notBlank (pastBlanks l)) (pastBlanks l) ∷ words (drop (leading notBlank (pastBlanks l)) (pastBlanks l))
+    ≡ take (leading notBlank (pastBlanks l)) (pastBlanks l)
+    ∷ words (drop (leading notBlank (pastBlanks l)) (pastBlanks l))
 unfolding words
 words-first l h = first-word blank l h

@@ -40,7 +40,8 @@ numberFaultOf most number =
     cond
     (eqb most none)
     (cond (eqb number absent) understood wordTooMany)
-    (cond (eqb number absent) numberMissing (cond (leb number most) understood (cond (eqb most 255) notAByte notSixteenBits)))
+    (cond (eqb number absent) numberMissing
+    (cond (leb number most) understood (cond (eqb most 255) notAByte notSixteenBits)))
 
 -- a number as a byte and in sixteen bits, and 0 where it is none
 unfoldable pub asByte : ℕ → ℕ

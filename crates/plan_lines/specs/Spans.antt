@@ -11,4 +11,5 @@ pub record NextWord (line : List ℕ) (place start past : ℕ) : Type 0 where
   pub within : past ≤ length line
   pub none : start ≡ past → words (drop place line) ≡ []
   pub ended : start ≡ past → words (drop past line) ≡ []
-  pub first : (start ≡ past → ⊥) → words (drop place line) ≡ take (past - start) (drop start line) ∷ words (drop past line)
+  pub first : (start ≡ past → ⊥)
+      → words (drop place line) ≡ take (past - start) (drop start line) ∷ words (drop past line)

@@ -1,4 +1,5 @@
--- A register filled, and the lines of its rows put down, line by line as the code goes. (Not for belief: what is recorded is told by rules_plan.)
+-- A register filled, and the lines of its rows put down, line by line as the code goes. (Not for belief:
+-- what is recorded is told by rules_plan.)
 use Prim.Native.Nat.{ℕ, suc}
 use mathlib.Core.Bool.{cond}
 use mathlib.Core.List.{List, [], _∷_}
@@ -16,4 +17,5 @@ filledFrom f (l ∷ ls) = filledFrom (afterLine (lineOf l) f) ls
 unfoldable pub linesFrom : ℕ → ℕ → List ℕ → List (List ℕ) → List ℕ
 linesFrom line count rows [] = rows
 linesFrom line count rows (l ∷ ls) =
-    cond (isReport (lineOf l)) (linesFrom (suc line) (suc count) (set rows count line) ls) (linesFrom (suc line) count rows ls)
+    cond (isReport (lineOf l)) (linesFrom (suc line) (suc count) (set rows count line) ls)
+    (linesFrom (suc line) count rows ls)

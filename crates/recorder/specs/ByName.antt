@@ -1,10 +1,12 @@
--- What is wrong with a setting and with a report where it stands. (Not for belief: what is wrong with a line is told by rules_plan.)
+-- What is wrong with a setting and with a report where it stands. (Not for belief: what is
+-- wrong with a line is told by rules_plan.)
 use Prim.Native.Nat.{ℕ}
 use mathlib.Core.Bool.{not, _&&_}
 use lib.Dec.{leb}
 use Rattle.rules.specs.Station.{withinLimits}
 use Rattle.rules.specs.Words.{_if_then_}
-use Rattle.rules_plan.specs.Faults.{allGiven, givenAlready, lateSetting, setAlready, settingsMissing, settingsOutside, tooManyReports, withLine}
+use Rattle.rules_plan.specs.Faults.{allGiven, givenAlready, lateSetting, setAlready, settingsMissing}
+use Rattle.rules_plan.specs.Faults.{settingsOutside, tooManyReports, withLine}
 use Rattle.rules_plan.specs.Lines.{understood}
 use Rattle.rules_plan.specs.declared.Line.{Line}
 use Rattle.rules_plan.specs.declared.Said.{Said}

@@ -6,7 +6,8 @@ use Rattle.rules.specs.rows.FurtherRows.{furtherRows}
 use Rattle.rules.specs.rows.Row.{firstWrong, named, others}
 
 -- no row has another name than these
-pub no-other : others (46 ∷ 47 ∷ 48 ∷ 49 ∷ 50 ∷ 51 ∷ 52 ∷ 53 ∷ 54 ∷ 55 ∷ 56 ∷ 57 ∷ 58 ∷ 59 ∷ 60 ∷ 61 ∷ 62 ∷ 63 ∷ 64 ∷ 65 ∷ 66 ∷ 67 ∷ 68 ∷ 69 ∷ []) furtherRows ≡ []
+pub no-other : others (46 ∷ 47 ∷ 48 ∷ 49 ∷ 50 ∷ 51 ∷ 52 ∷ 53 ∷ 54 ∷ 55 ∷ 56 ∷ 57 ∷ 58 ∷ 59 ∷ 60 ∷ 61 ∷ 62 ∷ 63 ∷ 64 ∷ 65
+    ∷ 66 ∷ 67 ∷ 68 ∷ 69 ∷ []) furtherRows ≡ []
 unfolding computed
 no-other = refl
 

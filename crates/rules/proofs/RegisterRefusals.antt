@@ -1,4 +1,5 @@
--- Document 01, "The numbers it answers": what is wrong with a register gets its number, proved by computation, one theorem for each name.
+-- Document 01, "The numbers it answers": what is wrong with a register gets its number, proved by
+-- computation, one theorem for each name.
 use mathlib.Core.Path.{_≡_, refl}
 use mathlib.Core.List.{[], _∷_}
 use Rattle.rules.proofs.Computed.{computed}
@@ -6,7 +7,8 @@ use Rattle.rules.specs.rows.RegisterRefusals.{registerRefusals}
 use Rattle.rules.specs.rows.Row.{firstWrong, named, others}
 
 -- no row has another name than these
-pub no-other : others (17 ∷ 18 ∷ 19 ∷ 20 ∷ 21 ∷ 22 ∷ 23 ∷ 24 ∷ 25 ∷ 26 ∷ 27 ∷ 28 ∷ 29 ∷ 30 ∷ 31 ∷ 32 ∷ 33 ∷ 34 ∷ 35 ∷ 36 ∷ 37 ∷ 38 ∷ 39 ∷ 40 ∷ 41 ∷ 42 ∷ 43 ∷ 44 ∷ 45 ∷ 46 ∷ 47 ∷ 48 ∷ 49 ∷ 50 ∷ 51 ∷ []) registerRefusals ≡ []
+pub no-other : others (17 ∷ 18 ∷ 19 ∷ 20 ∷ 21 ∷ 22 ∷ 23 ∷ 24 ∷ 25 ∷ 26 ∷ 27 ∷ 28 ∷ 29 ∷ 30 ∷ 31 ∷ 32 ∷ 33 ∷ 34 ∷ 35 ∷ 36
+    ∷ 37 ∷ 38 ∷ 39 ∷ 40 ∷ 41 ∷ 42 ∷ 43 ∷ 44 ∷ 45 ∷ 46 ∷ 47 ∷ 48 ∷ 49 ∷ 50 ∷ 51 ∷ []) registerRefusals ≡ []
 unfolding computed
 no-other = refl
 

@@ -6,7 +6,8 @@ use Rattle.rules.specs.rows.Row.{firstWrong, named, others}
 use Rattle.rules.specs.rows.StationRows.{stationRows}
 
 -- no row has another name than these
-pub no-other : others (29 ∷ 30 ∷ 31 ∷ 32 ∷ 33 ∷ 34 ∷ 35 ∷ 36 ∷ 37 ∷ 38 ∷ 39 ∷ 40 ∷ 41 ∷ 42 ∷ 43 ∷ 44 ∷ 45 ∷ []) stationRows ≡ []
+pub no-other :
+    others (29 ∷ 30 ∷ 31 ∷ 32 ∷ 33 ∷ 34 ∷ 35 ∷ 36 ∷ 37 ∷ 38 ∷ 39 ∷ 40 ∷ 41 ∷ 42 ∷ 43 ∷ 44 ∷ 45 ∷ []) stationRows ≡ []
 unfolding computed
 no-other = refl
 

@@ -2,8 +2,10 @@
 use Prim.Native.Nat.{ℕ}
 use mathlib.Core.Bool.{Bool, true, false, cond, not, _&&_, _||_}
 use lib.Dec.{eqb, leb, ltb}
-use Rattle.rules.specs.Numbers.{alreadySo, badField, done, noSuchHead, noSuchIsland, noSuchKind, noSuchTrack, notClear}
-use Rattle.rules.specs.Kinds.{Kind, clock, detectorFailed, detectorRestored, fields, headCondition, islandFree, islandOccupied, kindOf, noKind, normalise}
+use Rattle.rules.specs.Numbers.{alreadySo, badField, done, noSuchHead, noSuchIsland}
+use Rattle.rules.specs.Numbers.{noSuchKind, noSuchTrack, notClear}
+use Rattle.rules.specs.Kinds.{Kind, clock, detectorFailed, detectorRestored, fields, headCondition}
+use Rattle.rules.specs.Kinds.{islandFree, islandOccupied, kindOf, noKind, normalise}
 use Rattle.rules.specs.Reports.{acted, namedIsland}
 use Rattle.rules.specs.Station.{obstructed, settingsAnswer}
 use Rattle.rules.specs.Words.{within, _if_then_, _▷_}

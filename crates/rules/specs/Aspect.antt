@@ -4,7 +4,8 @@ use mathlib.Core.Bool.{Bool, true, cond, not, _&&_, _||_}
 use mathlib.Core.List.{List, [], _∷_, map}
 use lib.Dec.{leb, ltb}
 use lib.ListN.{replicate}
-use Rattle.rules.specs.Station.{Zone, anyIsland, approaching, goingAway, isAdvance, isWarning, live, timer, trackAt, withinLimits}
+use Rattle.rules.specs.Station.{Zone, anyIsland, approaching, goingAway, isAdvance}
+use Rattle.rules.specs.Station.{isWarning, live, timer, trackAt, withinLimits}
 use Rattle.rules.specs.Words.{any, count, _if_then_}
 use Rattle.rules.specs.declared.Island.{Island}
 use Rattle.rules.specs.declared.Settings.{Settings}
@@ -13,7 +14,8 @@ use Rattle.rules.specs.declared.Track.{Track}
 
 -- ---- held and fresh
 
--- An occupied island is held when its age is at least its timer T1, T2 or T3 (house; the matrices say greater). Otherwise it is fresh.
+-- An occupied island is held when its age is at least its timer T1, T2 or T3 (house; the
+-- matrices say greater). Otherwise it is fresh.
 abbrev pub held : Settings → Zone → Island → Bool
 held c z i = i .occupied && leb (timer c z) (i .age)
 
@@ -33,8 +35,9 @@ someFresh c t = anyIsland (λ z i. freshApproaching c z i) t
 unfoldable pub present : Settings → Track → Bool
 present c t = anyIsland (λ z i. approaching i || held c z i || isWarning z && goingAway i) t
 
--- The greatest-risk condition: some track has a fresh approaching island, and at least two tracks have an island that is approaching, held, or
--- a leaving warning island. Two trains on one track never count as two (house): it is the track that is counted.
+-- The greatest-risk condition: some track has a fresh approaching island, and at least two tracks have an
+-- island that is approaching, held, or a leaving warning island. Two trains on one track never count as two
+-- (house): it is the track that is counted.
 unfoldable pub greatestRisk : Station → Bool
 greatestRisk s = any (someFresh (s .settings)) (live s) && leb 2 (count (present (s .settings)) (live s))
 
@@ -72,9 +75,10 @@ aspectOf s =
 
 -- ---- presence (house)
 
--- A track's presence is what the greatest-risk condition counts; a track beyond the number has none. (Of a station refused with 8 every track is
--- shown as present.)
+-- A track's presence is what the greatest-risk condition counts; a track beyond the number has none. (Of a station
+-- refused with 8 every track is shown as present.)
 unfoldable pub presenceOf : Station → List Bool
 presenceOf s =
-    cond (withinLimits (s .settings)) (map (λ a. ltb a (s .settings .tracks) && present (s .settings) (trackAt s a)) (0 ∷ 1 ∷ 2 ∷ 3 ∷ []))
+    cond (withinLimits (s .settings))
+    (map (λ a. ltb a (s .settings .tracks) && present (s .settings) (trackAt s a)) (0 ∷ 1 ∷ 2 ∷ 3 ∷ []))
     (replicate 4 true)

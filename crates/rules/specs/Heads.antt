@@ -12,8 +12,8 @@ use Rattle.rules.specs.declared.Station.{Station}
 abbrev pub bit : ℕ → ℕ → Bool
 bit x k = eqb (x / 2 ^ k % 2) 1
 
--- A head condition marks failed parts: bits 0 to 3 green, orange, red, OTRO TREN board; bits 4 to 7 sounders S1 to S4; bit 8 power; bit 9
--- communication. Its bits from 10 up are not read.
+-- A head condition marks failed parts: bits 0 to 3 green, orange, red, OTRO TREN board; bits 4 to 7 sounders S1 to S4;
+-- bit 8 power; bit 9 communication. Its bits from 10 up are not read.
 abbrev pub lampFailed : ℕ → Bool
 lampFailed condition = bit condition 0 || bit condition 1 || bit condition 2 || bit condition 3
 
@@ -26,8 +26,8 @@ communicationFailed condition = bit condition 9
 abbrev pub failedSounders : ℕ → ℕ
 failedSounders condition = count (bit condition) (4 ∷ 5 ∷ 6 ∷ 7 ∷ [])
 
--- Any failed lamp or board: the five lamp outputs 0, sounders kept (matrix AV4; extending AV4 to every single lamp is house). One failed
--- sounder: that one silent.
+-- Any failed lamp or board: the five lamp outputs 0, sounders kept (matrix AV4; extending AV4 to every single lamp is
+-- house). One failed sounder: that one silent.
 abbrev pub out : ℕ → Column → Bool
 out condition VF = lampFailed condition
 out condition VI = lampFailed condition
@@ -44,13 +44,14 @@ abbrev pub those : (Column → Bool) → List Column → List Column
 those p [] = []
 those p (c ∷ cs) = cond (p c) (c ∷ those p cs) (those p cs)
 
--- Power, communication, or more than one failed sounder: outputs 0. Otherwise the columns of the outputs that are not out.
+-- Power, communication, or more than one failed sounder: outputs 0. Otherwise the columns of
+-- the outputs that are not out.
 unfoldable pub headOutputs : ℕ → ℕ → ℕ
 headOutputs outputs condition =
     cond (powerFailed condition || communicationFailed condition || ltb 1 (failedSounders condition)) 0
     (bits (those (λ c. bit outputs (place c) && not (out condition c)) columns))
 
--- The two heads are worked out apart, each from its own condition. A condition needs no normalising. (Of a station refused with 8 the aspect is 5, whose
--- outputs are 0, so the heads show 0.)
+-- The two heads are worked out apart, each from its own condition. A condition needs no normalising. (Of a station
+-- refused with 8 the aspect is 5, whose outputs are 0, so the heads show 0.)
 unfoldable pub headsOf : Station → List ℕ
 headsOf s = map (headOutputs (outputsOf (aspectOf s))) (s .conditions)

@@ -5,18 +5,21 @@ use mathlib.Core.List.{[], _∷_}
 use lib.Dec.{eqb, ltb}
 use lib.ListN.{getD}
 
--- Island occupied, island free, clock, detector failed, detector restored, head condition and normalise: kinds 1 to 7. Any other number is no kind.
+-- Island occupied, island free, clock, detector failed, detector restored, head condition and normalise:
+-- kinds 1 to 7. Any other number is no kind.
 pub data Kind : Type 0 where
   islandOccupied islandFree clock detectorFailed detectorRestored headCondition normalise noKind : Kind
 
 unfoldable pub kindOf : ℕ → Kind
 kindOf number =
-    getD (noKind ∷ islandOccupied ∷ islandFree ∷ clock ∷ detectorFailed ∷ detectorRestored ∷ headCondition ∷ normalise ∷ []) number noKind
+    getD
+    (noKind ∷ islandOccupied ∷ islandFree ∷ clock ∷ detectorFailed ∷ detectorRestored ∷ headCondition ∷ normalise ∷ [])
+    number noKind
 
 -- ---- what a field holds
 
--- whether it is the number of a track, of an island or of a head, and which numbers give 2 in it (a track, an island or a head that there is not gives 3, 4
--- or 5)
+-- whether it is the number of a track, of an island or of a head, and which numbers give 2 in it (a track, an island or
+-- a head that there is not gives 3, 4 or 5)
 pub record Field : Type 0 where
   pub isTrack : Bool
   pub isIsland : Bool

@@ -1,5 +1,5 @@
--- The paper, in its own order, which is the order to read it in. Words from further on: Station, Siting and Register give numbers of Numbers, Reports asks
--- the condition of Aspect, and Register the answers of Answers.
+-- The paper, in its own order, which is the order to read it in. Words from further on: Station, Siting and Register
+-- give numbers of Numbers, Reports asks the condition of Aspect, and Register the answers of Answers.
 pub mod Words
 pub mod Station
 pub mod Kinds

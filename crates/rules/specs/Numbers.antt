@@ -31,7 +31,8 @@ alreadySo = 6
 abbrev pub notClear : ℕ
 notClear = 7
 
--- setting (also of a station handed in) or siting number outside its limits; in appending, header settings not the station's
+-- setting (also of a station handed in) or siting number outside its limits; in appending,
+-- header settings not the station's
 abbrev pub outsideLimits : ℕ
 outsideLimits = 8
 

@@ -1,4 +1,5 @@
--- Document 01, "Reports": a report of each kind. What the table shows as 0, and spare, is 0; the rest is as given, within its limits or not.
+-- Document 01, "Reports": a report of each kind. What the table shows as 0, and spare, is 0; the rest
+-- is as given, within its limits or not.
 use Prim.Native.Nat.{ℕ}
 use Rattle.rules.specs.declared.Report.{Report}
 

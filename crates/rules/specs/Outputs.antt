@@ -26,7 +26,8 @@ abbrev pub bits : List Column → ℕ
 bits [] = 0
 bits (c ∷ cs) = 2 ^ place c + bits cs
 
--- What each aspect shows: its lamps, and the sounder that document 000 ties to them. S1 goes with VI, S2 with RF, S3 with R+, S4 with NI.
+-- What each aspect shows: its lamps, and the sounder that document 000 ties to them. S1 goes with
+-- VI, S2 with RF, S3 with R+, S4 with NI.
 abbrev pub permitted : List Column
 permitted = VF ∷ []
 

@@ -5,8 +5,11 @@ use mathlib.Core.List.{[], _∷_, _++_, map}
 use lib.Dec.{eqb, leb, ltb}
 use lib.ListN.{getD, set}
 use Rattle.rules.specs.Aspect.{greatestRisk}
-use Rattle.rules.specs.Kinds.{Kind, clock, detectorFailed, detectorRestored, headCondition, islandFree, islandOccupied, noKind, normalise}
-use Rattle.rules.specs.Station.{Zone, advance, anyIsland, approaching, beyond, crossing, goingAway, isWarning, islandAt, live, trackAt, warning, withCondition, withFault, withHold, withTrack, withTracks, zones}
+use Rattle.rules.specs.Kinds.{Kind, clock, detectorFailed, detectorRestored, headCondition}
+use Rattle.rules.specs.Kinds.{islandFree, islandOccupied, noKind, normalise}
+use Rattle.rules.specs.Station.{Zone, advance, anyIsland, approaching, beyond, crossing, goingAway}
+use Rattle.rules.specs.Station.{isWarning, islandAt, live, trackAt, warning, withCondition, withFault}
+use Rattle.rules.specs.Station.{withHold, withTrack, withTracks, zones}
 use Rattle.rules.specs.Words.{any}
 use Rattle.rules.specs.declared.Island.{Island}
 use Rattle.rules.specs.declared.Report.{Report}
@@ -23,9 +26,10 @@ advanceBeside k = cond (eqb k 1) 0 4
 abbrev pub warningBeside : ℕ → ℕ
 warningBeside k = cond (eqb k 0) 1 3
 
--- The crossing is always approaching. A warning island is leaving exactly when the crossing of that track is occupied and the advance island
--- of the same side is not both occupied and approaching. An advance island is leaving exactly when the warning island of the same side is
--- occupied and leaving. Otherwise approaching. (House; it gives the matrices N1, N2.1, N2.2, N10.2.)
+-- The crossing is always approaching. A warning island is leaving exactly when the crossing of that track is
+-- occupied and the advance island of the same side is not both occupied and approaching. An advance island is
+-- leaving exactly when the warning island of the same side is occupied and leaving. Otherwise approaching. (House;
+-- it gives the matrices N1, N2.1, N2.2, N10.2.)
 abbrev pub leavingIn : Track → ℕ → Zone → Bool
 leavingIn t k crossing = false
 leavingIn t k warning = islandAt t 2 .occupied && not (approaching (islandAt t (advanceBeside k)))
@@ -44,7 +48,9 @@ freeNow t k = record { occupied = false; leaving = false; failed = islandAt t k 
 
 -- an island with its detector failed, or restored
 unfoldable pub detectorNow : Bool → Track → ℕ → Island
-detectorNow failed t k = let i = islandAt t k in record { occupied = i .occupied; leaving = i .leaving; failed = failed; age = i .age }
+detectorNow failed t k =
+    let i = islandAt t k in
+    record { occupied = i .occupied; leaving = i .leaving; failed = failed; age = i .age }
 
 -- the track with another island at a place
 unfoldable pub withIsland : Track → ℕ → Island → Track
@@ -81,8 +87,8 @@ allOlder s = withTracks s (map olderTrack (live s) ++ beyond s)
 unfoldable pub faultLatched : Station → Station
 faultLatched s = withFault s (s .fault || any (late (s .settings)) (live s))
 
--- After each single tick, and after every other accepted report, the hold is set to T4 if the greatest-risk condition is then true. (T4 as a hold
--- is house; T4 = 0 gives the five matrices.)
+-- After each single tick, and after every other accepted report, the hold is set to T4 if the greatest-risk condition
+-- is then true. (T4 as a hold is house; T4 = 0 gives the five matrices.)
 unfoldable pub holdSet : Station → Station
 holdSet s = withHold s (cond (greatestRisk s) (s .settings .t4) (s .hold))
 
@@ -107,9 +113,10 @@ namedIsland s r = islandAt (namedTrack s r) (r .b)
 abbrev pub withNamed : Station → Report → Island → Station
 withNamed s r i = withTrack s (r .a) (withIsland (namedTrack s r) (r .b) i)
 
--- What an accepted report does. Occupied: age becomes 0 and the mark is set once, at that moment. Clock with n ticks means n single ticks. A failed
--- detector latches the fault. Restoring does not unlatch it. Normalise unlatches and sets the hold to 0. After every accepted report but the clock,
--- whose ticks do it one by one, the hold is set to T4 if the greatest-risk condition is then true.
+-- What an accepted report does. Occupied: age becomes 0 and the mark is set once, at that moment. Clock with n ticks
+-- means n single ticks. A failed detector latches the fault. Restoring does not unlatch it. Normalise unlatches and
+-- sets the hold to 0. After every accepted report but the clock, whose ticks do it one by one, the hold is set to T4 if
+-- the greatest-risk condition is then true.
 unfoldable pub acted : Kind → Station → Report → Station
 acted islandOccupied s r = holdSet (withNamed s r (occupiedNow (namedTrack s r) (r .b)))
 acted islandFree s r = holdSet (withNamed s r (freeNow (namedTrack s r) (r .b)))

@@ -8,7 +8,8 @@ use lib.ListN.{drop, length, replicate, take}
 use Rattle.rules_json.specs.Abnf.{octets}
 use Rattle.rules_json.specs.Grammar.{digit, joined}
 use Rattle.rules_json.specs.Reader.{isText, textSaid}
-use Rattle.rules_json.specs.Tree.{Member, Scalar, Tree, Value, array, false-literal, null-literal, number, object, scalar, string, true-literal}
+use Rattle.rules_json.specs.Tree.{Member, Scalar, Tree, Value, array, false-literal, null-literal}
+use Rattle.rules_json.specs.Tree.{number, object, scalar, string, true-literal}
 use Rattle.rules.specs.Aspect.{aspectOf}
 use Rattle.rules.specs.Numbers.{badMember, done, noRoom, notJson}
 use Rattle.rules.specs.Printer.{decimal}
@@ -20,7 +21,8 @@ use Rattle.rules.specs.declared.Station.{Station}
 use Rattle.rules.specs.declared.Track.{Track}
 use Rattle.rules.specs.declared.Written.{Written}
 
--- ---- "members `station` (0 to 65535), `aspect` (0 to 5) and `tracks`, a list of one to four lists of five digits (0 occupied, 1 free)"
+-- ---- "members `station` (0 to 65535), `aspect` (0 to 5) and `tracks`, a list of one to four
+-- lists of five digits (0 occupied, 1 free)"
 
 -- Member names are ours.
 abbrev pub stationName : List ℕ
@@ -62,7 +64,12 @@ trackDigits t = map (λ k. cond (islandAt t k .occupied) 0 1) (0 ∷ 1 ∷ 2 ∷
 unfoldable pub messageOf : ℕ → Station → Message
 messageOf station s =
     cond (withinLimits (s .settings))
-    record { station = station; aspect = aspectOf s; tracks = s .settings .tracks; digits = padded (joined (map trackDigits (live s))) }
+    record {
+      station = station;
+      aspect = aspectOf s;
+      tracks = s .settings .tracks;
+      digits = padded (joined (map trackDigits (live s)));
+    }
     record { station = station; aspect = 5; tracks = 4; digits = replicate 20 0 }
 
 -- ---- "We write one object .. no spaces and members in that order."
@@ -79,7 +86,8 @@ written m =
     ++ (octets ",\"tracks\":" ++ (listed (map (λ five. listed (map decimal five)) (fives (m .tracks) (m .digits)))
     ++ octets "}")))))
 
--- 16: one of our members outside its range. (House: a digit of a track that is not there is 0, or what we write would not be read back unchanged.)
+-- 16: one of our members outside its range. (House: a digit of a track that is not there is 0, or what we
+-- write would not be read back unchanged.)
 unfoldable pub messageFits : Message → Bool
 messageFits m =
     leb (m .station) greatestStation
@@ -101,7 +109,8 @@ writtenOf m room =
 unfoldable pub afterWriting : Message → List ℕ → List ℕ
 afterWriting m b = cond (eqb (writingAnswer m (length b)) done) (written m ++ drop (length (written m)) b) b
 
--- ---- "our reader takes any RFC 8259 text in UTF-8 of at most 4,096 bytes in which lists and objects stand at most 8 deep, each inside the other"
+-- ---- "our reader takes any RFC 8259 text in UTF-8 of at most 4,096 bytes in which lists and objects stand
+-- at most 8 deep, each inside the other"
 
 abbrev pub longest : ℕ
 longest = 4096
@@ -175,7 +184,8 @@ isEmpty (x ∷ xs) = false
 -- "Our numbers bear no sign, fraction or exponent."
 unfoldable pub ourNumber : ℕ → List ℕ → Option ℕ
 ourNumber most text =
-    provided (not (isEmpty text) && not (any (λ b. not (digit b)) text) && leb (numberAfter 0 text) most) (numberAfter 0 text)
+    provided (not (isEmpty text) && not (any (λ b. not (digit b)) text) && leb (numberAfter 0 text) most)
+    (numberAfter 0 text)
 
 module _ {A : Type 0} where
   -- a number from 0 to the most
@@ -212,7 +222,8 @@ aspectIn members = andThen (first aspectName members) (numberOf greatestAspect)
 abbrev pub tracksIn : List (Member (Tree 7)) → Option (List (List ℕ))
 tracksIn members = andThen (first tracksName members) tracksOf
 
--- 15 not RFC 8259 text, too long or too deep; 16 one of our members missing, of another form or outside its range; in that order
+-- 15 not RFC 8259 text, too long or too deep; 16 one of our members missing, of another form or
+-- outside its range; in that order
 unfoldable pub readingAnswer : List ℕ → ℕ
 readingAnswer s =
     notJson if not (isTaken s) then

@@ -31,8 +31,8 @@ isAdvance advance = true
 isAdvance warning = false
 isAdvance crossing = false
 
--- An island is free, or occupied with a mark (approaching or leaving) and an age in clock ticks. A free island has no mark and
--- age 0 (house).
+-- An island is free, or occupied with a mark (approaching or leaving) and an age in clock ticks. A free
+-- island has no mark and age 0 (house).
 abbrev pub approaching : Island → Bool
 approaching i = i .occupied && not (i .leaving)
 
@@ -62,8 +62,8 @@ someFailed t = any (λ i. i .failed) (t .islands)
 
 -- ---- settings
 
--- Settings: the number of tracks (1 to 4: four is a house limit); T1, T2, T3 from 1 to 65535; T4 from 0 to 65535; T5 from 1 to 65535 and
--- greater than T2.
+-- Settings: the number of tracks (1 to 4: four is a house limit); T1, T2, T3 from 1 to 65535; T4 from 0 to 65535;
+-- T5 from 1 to 65535 and greater than T2.
 unfoldable pub withinLimits : Settings → Bool
 withinLimits c =
     within 1 4 (c .tracks)
@@ -82,9 +82,11 @@ timer c crossing = c .t3
 
 -- ---- the station
 
--- A fresh station has every island free, no detector failed, both head conditions 0, no hold left, and its fault latched.
+-- A fresh station has every island free, no detector failed, both head conditions 0, no hold
+-- left, and its fault latched.
 unfoldable pub freshStation : Settings → Station
-freshStation c = record { settings = c; tracks = replicate 4 freeTrack; hold = 0; fault = true; conditions = 0 ∷ 0 ∷ [] }
+freshStation c =
+    record { settings = c; tracks = replicate 4 freeTrack; hold = 0; fault = true; conditions = 0 ∷ 0 ∷ [] }
 
 -- Tracks are numbered from 0. Tracks beyond the station's number are neither read nor changed.
 abbrev pub live : Station → List Track
@@ -102,16 +104,20 @@ obstructed s = any someOccupied (live s) || any someFailed (live s)
 
 -- the station with one of its parts another
 abbrev pub withTracks : Station → List Track → Station
-withTracks s l = record { settings = s .settings; tracks = l; hold = s .hold; fault = s .fault; conditions = s .conditions }
+withTracks s l =
+    record { settings = s .settings; tracks = l; hold = s .hold; fault = s .fault; conditions = s .conditions }
 
 abbrev pub withHold : Station → ℕ → Station
-withHold s n = record { settings = s .settings; tracks = s .tracks; hold = n; fault = s .fault; conditions = s .conditions }
+withHold s n =
+    record { settings = s .settings; tracks = s .tracks; hold = n; fault = s .fault; conditions = s .conditions }
 
 abbrev pub withFault : Station → Bool → Station
-withFault s b = record { settings = s .settings; tracks = s .tracks; hold = s .hold; fault = b; conditions = s .conditions }
+withFault s b =
+    record { settings = s .settings; tracks = s .tracks; hold = s .hold; fault = b; conditions = s .conditions }
 
 abbrev pub withConditions : Station → List ℕ → Station
-withConditions s l = record { settings = s .settings; tracks = s .tracks; hold = s .hold; fault = s .fault; conditions = l }
+withConditions s l =
+    record { settings = s .settings; tracks = s .tracks; hold = s .hold; fault = s .fault; conditions = l }
 
 unfoldable pub withTrack : Station → ℕ → Track → Station
 withTrack s a t = withTracks s (set (s .tracks) a t)
@@ -130,4 +136,5 @@ unfoldable pub settingsAnswer : Settings → ℕ
 settingsAnswer c = outsideLimits if not (withinLimits c) then done
 
 unfoldable pub made : Settings → Made
-made c = record { answer = settingsAnswer c; station = freshStation (cond (eqb (settingsAnswer c) done) c leastSettings) }
+made c =
+    record { answer = settingsAnswer c; station = freshStation (cond (eqb (settingsAnswer c) done) c leastSettings) }

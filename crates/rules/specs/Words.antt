@@ -1,4 +1,5 @@
--- Words that document 01 uses throughout: "some", "any", "at least two"; bytes put at a place; the first test that refuses; from a least to a most number.
+-- Words that document 01 uses throughout: "some", "any", "at least two"; bytes put at a place; the first test that
+-- refuses; from a least to a most number.
 use Prim.Native.Nat.{ℕ, suc, _+_}
 use mathlib.Core.Bool.{Bool, false, cond, _&&_, _||_}
 use mathlib.Core.List.{List, [], _∷_, _++_}

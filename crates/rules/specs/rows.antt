@@ -1,4 +1,5 @@
--- Rows that try the definitions of the folder above, a sentence of document 01, of document 02 or of ours over each. proofs/ computes them.
+-- Rows that try the definitions of the folder above, a sentence of document 01, of document 02 or of
+-- ours over each. proofs/ computes them.
 pub mod Row
 pub mod Machine
 pub mod Table

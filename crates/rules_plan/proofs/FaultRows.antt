@@ -6,7 +6,8 @@ use Rattle.rules_plan.proofs.Computed.{computed}
 use Rattle.rules_plan.specs.rows.FaultRows.{faultRows}
 
 -- no row has another name than these
-pub no-other : others (35 ∷ 36 ∷ 37 ∷ 38 ∷ 39 ∷ 40 ∷ 41 ∷ 42 ∷ 43 ∷ 44 ∷ 45 ∷ 46 ∷ 47 ∷ 48 ∷ 49 ∷ 50 ∷ 51 ∷ []) faultRows ≡ []
+pub no-other :
+    others (35 ∷ 36 ∷ 37 ∷ 38 ∷ 39 ∷ 40 ∷ 41 ∷ 42 ∷ 43 ∷ 44 ∷ 45 ∷ 46 ∷ 47 ∷ 48 ∷ 49 ∷ 50 ∷ 51 ∷ []) faultRows ≡ []
 unfolding computed
 no-other = refl
 

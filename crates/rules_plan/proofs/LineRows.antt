@@ -6,7 +6,8 @@ use Rattle.rules_plan.proofs.Computed.{computed}
 use Rattle.rules_plan.specs.rows.LineRows.{lineRows}
 
 -- no row has another name than these
-pub no-other : others (16 ∷ 17 ∷ 18 ∷ 19 ∷ 20 ∷ 21 ∷ 22 ∷ 23 ∷ 24 ∷ 25 ∷ 26 ∷ 27 ∷ 28 ∷ 29 ∷ 30 ∷ 31 ∷ 32 ∷ 33 ∷ 34 ∷ []) lineRows ≡ []
+pub no-other : others (16 ∷ 17 ∷ 18 ∷ 19 ∷ 20 ∷ 21 ∷ 22 ∷ 23 ∷ 24 ∷ 25 ∷ 26 ∷ 27 ∷ 28 ∷ 29 ∷ 30
+    ∷ 31 ∷ 32 ∷ 33 ∷ 34 ∷ []) lineRows ≡ []
 unfolding computed
 no-other = refl
 

@@ -43,7 +43,11 @@ textEnds = 11
 
 unfoldable pub nothingSaid : Said
 nothingSaid =
-    record { given = replicate 6 false; settings = record { tracks = 0; t1 = 0; t2 = 0; t3 = 0; t4 = 0; t5 = 0 }; reports = 0 }
+    record {
+      given = replicate 6 false;
+      settings = record { tracks = 0; t1 = 0; t2 = 0; t3 = 0; t4 = 0; t5 = 0 };
+      reports = 0;
+    }
 
 unfoldable pub allGiven : Said → Bool
 allGiven s = not (any not (s .given))

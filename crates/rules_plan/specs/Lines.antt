@@ -1,4 +1,5 @@
--- What a line of a planner's text says: a setting, a report, or nothing; and what is wrong with its words by themselves.
+-- What a line of a planner's text says: a setting, a report, or nothing; and what is wrong with
+-- its words by themselves.
 use Prim.Native.Nat.{ℕ}
 use mathlib.Core.Bool.{Bool, cond, not, _&&_}
 use mathlib.Core.List.{List, [], _∷_}
@@ -74,7 +75,8 @@ mosts name = getD allMosts name []
 
 -- What is wrong with a word where a number up to a most is meant. A number is a word of decimal digits alone.
 abbrev pub numberFault : ℕ → List ℕ → ℕ
-numberFault most word = cond (eqb most byte) notAByte notSixteenBits if not (isThere (ourNumber most word)) then understood
+numberFault most word =
+    cond (eqb most byte) notAByte notSixteenBits if not (isThere (ourNumber most word)) then understood
 
 -- The words behind a name, from left to right.
 unfoldable pub wordsFault : List ℕ → List (List ℕ) → ℕ
@@ -90,7 +92,8 @@ byteAt words place = orElse 0 (ourNumber byte (getD words place []))
 abbrev pub numberAt : List (List ℕ) → ℕ → ℕ
 numberAt words place = orElse 0 (ourNumber sixteenBits (getD words place []))
 
--- They fill a report of their kind. A setting's one number fills the field of its size: tracks, which are a byte, a; a timer, of sixteen bits, value.
+-- They fill a report of their kind. A setting's one number fills the field of its size: tracks, which are a
+-- byte, a; a timer, of sixteen bits, value.
 unfoldable pub numbersOf : ℕ → List (List ℕ) → Report
 numbersOf name words =
     getD

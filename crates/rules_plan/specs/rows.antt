@@ -1,4 +1,5 @@
--- Rows that try the definitions of the folder above, a sentence of the format over each. proofs/ computes them. What a row is, rules tells.
+-- Rows that try the definitions of the folder above, a sentence of the format over each. proofs/
+-- computes them. What a row is, rules tells.
 pub mod Told
 pub mod WordRows
 pub mod LineRows

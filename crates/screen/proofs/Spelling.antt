@@ -119,7 +119,8 @@ module _ (m : Message) (fits : messageFits m ≡ true) (twenty : length (m .digi
   spelt =
       regroup beforeStation (decimal (m .station)) beforeAspect beforeTracks shown (48 + m .aspect) 93 125
       ∙ λ i.
-      beforeStation ++ (decimal (m .station) ++ (beforeAspect ++ (aspect i ++ (beforeTracks ++ (list i ++ octets "}")))))
+      beforeStation
+      ++ (decimal (m .station) ++ (beforeAspect ++ (aspect i ++ (beforeTracks ++ (list i ++ octets "}")))))
     where
       aspect : (48 + m .aspect) ∷ [] ≡ decimal (m .aspect)
       aspect = sym (decimal-digit (m .aspect) (omega (arith, so .aspect)))

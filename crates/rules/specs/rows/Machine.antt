@@ -1,5 +1,5 @@
--- Document 01, "How firm each statement is": a machine is whatever makes stations of settings, takes reports and shows an aspect. Ours is one; the idle
--- versions that have to be shut out are others.
+-- Document 01, "How firm each statement is": a machine is whatever makes stations of settings, takes reports and shows
+-- an aspect. Ours is one; the idle versions that have to be shut out are others.
 use Prim.Native.Nat.{ℕ}
 use Rattle.rules.specs.Answers.{answerOf, stationAfter}
 use Rattle.rules.specs.Aspect.{aspectOf}
@@ -17,4 +17,5 @@ pub record Machine : Type 1 where
 
 -- ours, by its definitions, which the promises of `station` and `reports` cite
 abbrev pub ours : Machine
-ours = record { State = Station; make = λ c. made c .station; answer = answerOf; after = stationAfter; aspect = aspectOf }
+ours =
+    record { State = Station; make = λ c. made c .station; answer = answerOf; after = stationAfter; aspect = aspectOf }

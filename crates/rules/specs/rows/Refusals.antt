@@ -1,4 +1,5 @@
--- Document 01, "The numbers it answers": bad input gets its number, and input just within the limits gets 0, as rows of a single table.
+-- Document 01, "The numbers it answers": bad input gets its number, and input just within the
+-- limits gets 0, as rows of a single table.
 use Prim.Native.Nat.{ℕ}
 use mathlib.Core.Bool.{false}
 use mathlib.Core.List.{List, [], _∷_, _++_, map}
@@ -96,7 +97,8 @@ refusals =
     -- R17: 7, normalise with an island occupied or a detector failed
     ++ each 17 7 (answerAfter (occupied 0 3 ∷ []) normalised ∷ answerAfter (failed 0 3 ∷ []) normalised ∷ [])
     -- R18: 8, setting outside its limits, the number of tracks at 0, 5 and 255,
-    ++ each 18 8 (map making (chosen 0 300 300 300 0 600 ∷ chosen 5 300 300 300 0 600 ∷ chosen 255 300 300 300 0 600 ∷ []))
+    ++ each 18 8
+    (map making (chosen 0 300 300 300 0 600 ∷ chosen 5 300 300 300 0 600 ∷ chosen 255 300 300 300 0 600 ∷ []))
     -- R19: T1, T2 and T3 at 0,
     ++ each 19 8 (map making (chosen 2 0 300 300 0 600 ∷ chosen 2 300 0 300 0 600 ∷ chosen 2 300 300 0 0 600 ∷ []))
     -- R20: T5 at 0, equal to T2, and below T2
@@ -116,10 +118,13 @@ refusals =
     ++ each 28 3 (map answer (occupied 2 5 ∷ []))
     -- R29: settings outside their limits, and no such kind:
     ++ each 29 8 (answerOf fiveTracks (report 8 0 0 0 0) ∷ [])
-    -- Each number is given in its stated case only: what stands just within a limit is answered 0. R30: Settings, at their least and at their greatest,
+    -- Each number is given in its stated case only: what stands just within a limit is answered 0. R30: Settings, at
+    -- their least and at their greatest,
     ++ each 30 0 (map making (chosen 1 1 1 1 0 2 ∷ chosen 4 65535 65534 65535 65535 65535 ∷ []))
-    -- R31: reports, the last track, the first and the last island, the last head, the shortest and the longest clock, the greatest condition,
-    ++ each 31 0 (map answer (occupied 1 0 ∷ occupied 1 4 ∷ condition 1 0 ∷ condition 0 1023 ∷ clock 1 ∷ clock 65535 ∷ []))
+    -- R31: reports, the last track, the first and the last island, the last head, the shortest and the
+    -- longest clock, the greatest condition,
+    ++ each 31 0
+    (map answer (occupied 1 0 ∷ occupied 1 4 ∷ condition 1 0 ∷ condition 0 1023 ∷ clock 1 ∷ clock 65535 ∷ []))
     -- R32: an island whose detector has failed, and a detector whose island is occupied,
     ++ each 32 0
     (answerAfter (failed 0 3 ∷ []) (occupied 0 3)
@@ -129,5 +134,6 @@ refusals =
     ∷ [])
     -- R33: and siting: 1 km/h with 0 s, 350 km/h with 60 s, 1 km/h across 1 track, 350 km/h across 4
     ++ each 33 0 (map (λ s. s .answer) nearest)
-    ++ (row 34 (advanceSited 1 (seconds 0) .distance .0) 9 ∷ row 34 (advanceSited 350 (seconds 60) .distance .0) 8750 ∷ [])
+    ++ (row 34 (advanceSited 1 (seconds 0) .distance .0) 9
+    ∷ row 34 (advanceSited 350 (seconds 60) .distance .0) 8750 ∷ [])
     ++ (row 34 (warningSited 1 1 .distance .0) 2 ∷ row 34 (warningSited 350 4 .distance .0) 2723 ∷ [])

@@ -28,8 +28,8 @@ module _ (m : Machine) where
   abbrev pub outputs : m .State → ℕ
   outputs s = outputsOf (m .aspect s)
 
-  -- Where the station stands at each row. "C3 to C10 after a normalise", that is after C2 where nothing else is said; "then" is after the row before. C11 is on a
-  -- fresh station.
+  -- Where the station stands at each row. "C3 to C10 after a normalise", that is after C2 where nothing else is said;
+  -- "then" is after the row before. C11 is on a fresh station.
   abbrev pub c1 : m .State
   c1 = m .make (settings 0)
 

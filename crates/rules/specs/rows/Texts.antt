@@ -5,7 +5,8 @@ use mathlib.Core.List.{List, [], _∷_, _++_, map}
 use lib.ListN.{length, replicate}
 use Rattle.rules_json.specs.Abnf.{octets}
 use Rattle.rules_json.specs.Reader.{isText, textSaid, valueSize}
-use Rattle.rules_json.specs.Tree.{Scalar, Tree, Value, array, false-literal, null-literal, number, object, scalar, string, true-literal}
+use Rattle.rules_json.specs.Tree.{Scalar, Tree, Value, array, false-literal, null-literal}
+use Rattle.rules_json.specs.Tree.{number, object, scalar, string, true-literal}
 use Rattle.rules.specs.Words.{count}
 use Rattle.rules.specs.rows.Row.{digits, together}
 
@@ -92,7 +93,8 @@ scalarTold (string units) = stringTold units
 module _ {A : Type 0} where
   abbrev pub valueTold : (A → List ℕ) → Value A → List ℕ
   valueTold inner (scalar x) = scalarTold x
-  valueTold inner (object members) = 6 ∷ length members ∷ together (map (λ m. counted (m .name) ++ inner (m .value)) members)
+  valueTold inner (object members) =
+      6 ∷ length members ∷ together (map (λ m. counted (m .name) ++ inner (m .value)) members)
   valueTold inner (array values) = 7 ∷ length values ∷ together (map inner values)
 
 abbrev pub treeTold : (deep : ℕ) → Tree deep → List ℕ

@@ -1,6 +1,7 @@
--- A planner's text: rows P52 to P60 for what is recorded of it. What is lent holds nines, and is longer than what is recorded but for once. What is
--- due is read off the sentence that stands above each, the bytes off document 01's "Reports" and "The register": `CEA`, 1 in 16 bits, tracks, T1 to
--- T5 in 16 bits each; of each entry kind, a, b, spare, value in 16 bits, answer, aspect; all low byte first.
+-- A planner's text: rows P52 to P60 for what is recorded of it. What is lent holds nines, and is longer than what is
+-- recorded but for once. What is due is read off the sentence that stands above each, the bytes off document 01's
+-- "Reports" and "The register": `CEA`, 1 in 16 bits, tracks, T1 to T5 in 16 bits each; of each entry kind, a, b, spare,
+-- value in 16 bits, answer, aspect; all low byte first.
 use Prim.Native.Nat.{ℕ}
 use Prim.Native.String.{String}
 use mathlib.Core.List.{List, [], _∷_, _++_, map}
@@ -13,12 +14,14 @@ use Rattle.rules_plan.specs.rows.Told.{markTyped, onLines, recordedTold,
 
 -- ---- texts
 
--- Document 01, "The matrix printer": Settings 2 tracks, 300, 300, 300, 0, 600 and these reports (kind, a, b, value): 7 0 0 0; 1 0 4 0; 3 0 0 300;
+-- Document 01, "The matrix printer": Settings 2 tracks, 300, 300, 300, 0, 600 and these reports (kind, a,
+-- b, value): 7 0 0 0; 1 0 4 0; 3 0 0 300;
 -- 1 0 3 0; 1 0 3 0
 abbrev pub worked : List ℕ
 worked = sixThen ("normalise" ∷ "occupied 0 4" ∷ "clock 300" ∷ "occupied 0 3" ∷ "occupied 0 3" ∷ [])
 
--- the same with a byte order mark, carriage returns, empty lines, comments, blanks, capitals and no last line feed, its settings in another order
+-- the same with a byte order mark, carriage returns, empty lines, comments, blanks, capitals and no last
+-- line feed, its settings in another order
 abbrev pub workedAgain : List ℕ
 workedAgain =
     markTyped
@@ -60,10 +63,12 @@ eachKind =
 
 -- reports refused by 1, 2, 3, 4, 5 and 6; one that is taken; and one refused by 7
 abbrev pub eachRefusal : List String
-eachRefusal = "report 9 1 2 3 1027" ∷ "clock 0" ∷ "occupied 2 0" ∷ "free 0 5" ∷ "head 2 1023" ∷ "restored 0 0" ∷ "failed 1 4" ∷ "normalise" ∷ []
+eachRefusal =
+    "report 9 1 2 3 1027" ∷ "clock 0" ∷ "occupied 2 0" ∷ "free 0 5" ∷ "head 2 1023" ∷ "restored 0 0"
+    ∷ "failed 1 4" ∷ "normalise" ∷ []
 
--- texts that are not understood: at the first line, among the settings, at their last, at the first report, at the last line; and two that end early,
--- one of them where the setting that is missing may be 0
+-- texts that are not understood: at the first line, among the settings, at their last, at the first report, at the last
+-- line; and two that end early, one of them where the setting that is missing may be 0
 abbrev pub wrongTexts : List (List ℕ)
 wrongTexts =
     onLines ("x" ∷ six)
@@ -78,7 +83,8 @@ wrongTexts =
 abbrev pub recordingRows : List Row
 recordingRows =
     -- P52: the worked sheet is understood: five reports
-    rows 52 (together (map (λ text. recordedTold (recordedOf text)) (worked ∷ workedAgain ∷ []))) (0 ∷ 0 ∷ 5 ∷ 0 ∷ 0 ∷ 5 ∷ [])
+    rows 52 (together (map (λ text. recordedTold (recordedOf text)) (worked ∷ workedAgain ∷ [])))
+    (0 ∷ 0 ∷ 5 ∷ 0 ∷ 0 ∷ 5 ∷ [])
     -- P53: its 56 bytes, and no other is touched
     ++ rows 53 (recordedBytes worked (nines 60)) (workedBytes ++ nines 4)
     ++ rows 53 (recordedBytes workedAgain (nines 60)) (workedBytes ++ nines 4)
@@ -87,9 +93,11 @@ recordingRows =
     ++ rows 54 (recordedLines worked (nines 7)) (7 ∷ 8 ∷ 9 ∷ 10 ∷ 11 ∷ 9 ∷ 9 ∷ [])
     ++ rows 54 (recordedLines workedAgain (nines 7)) (9 ∷ 11 ∷ 13 ∷ 16 ∷ 17 ∷ 9 ∷ 9 ∷ [])
     -- P55: settings alone are a register of no rows; each setting in its place, low byte first
-    ++ rows 55 (recordedBytes (onLines ("t3 2057" ∷ "t1 258" ∷ "t5 1000" ∷ "tracks 3" ∷ "t2 772" ∷ "t4 1286" ∷ [])) (nines 18))
+    ++ rows 55
+    (recordedBytes (onLines ("t3 2057" ∷ "t1 258" ∷ "t5 1000" ∷ "tracks 3" ∷ "t2 772" ∷ "t4 1286" ∷ [])) (nines 18))
     ((67 ∷ 69 ∷ 65 ∷ 1 ∷ 0 ∷ 3 ∷ 2 ∷ 1 ∷ 4 ∷ 3 ∷ 9 ∷ 8 ∷ 6 ∷ 5 ∷ 232 ∷ 3 ∷ []) ++ nines 2)
-    ++ rows 55 (recordedTold (recordedOf (onLines six)) ++ recordedLines (onLines six) (nines 2)) (0 ∷ 0 ∷ 0 ∷ 9 ∷ 9 ∷ [])
+    ++ rows 55 (recordedTold (recordedOf (onLines six)) ++ recordedLines (onLines six) (nines 2))
+    (0 ∷ 0 ∷ 0 ∷ 9 ∷ 9 ∷ [])
     -- P56: each kind of report in its words
     ++ rows 56 (recordedBytes (sixThen eachKind) (nines 90))
     (workedHeader
@@ -115,8 +123,10 @@ recordingRows =
     ++ (4 ∷ 1 ∷ 4 ∷ 0 ∷ 0 ∷ 0 ∷ 0 ∷ 5 ∷ [])
     ++ (7 ∷ 0 ∷ 0 ∷ 0 ∷ 0 ∷ 0 ∷ 7 ∷ 5 ∷ [])
     ++ nines 2)
-    ++ rows 57 (recordedTold (recordedOf (sixThen ("report 9 1 2 3 1027" ∷ "clock 0" ∷ "normalise" ∷ [])))) (0 ∷ 0 ∷ 3 ∷ [])
-    ++ rows 57 (recordedLines (sixThen ("report 9 1 2 3 1027" ∷ "" ∷ "clock 0" ∷ "normalise" ∷ [])) (nines 4)) (7 ∷ 9 ∷ 10 ∷ 9 ∷ [])
+    ++ rows 57 (recordedTold (recordedOf (sixThen ("report 9 1 2 3 1027" ∷ "clock 0" ∷ "normalise" ∷ []))))
+    (0 ∷ 0 ∷ 3 ∷ [])
+    ++ rows 57 (recordedLines (sixThen ("report 9 1 2 3 1027" ∷ "" ∷ "clock 0" ∷ "normalise" ∷ [])) (nines 4))
+    (7 ∷ 9 ∷ 10 ∷ 9 ∷ [])
     -- P58: where something is wrong: what, and on which line, and no report is entered
     ++ rows 58 (together (map (λ text. recordedTold (recordedOf text)) wrongTexts))
     ((1 ∷ 1 ∷ 0 ∷ 7 ∷ 2 ∷ 0 ∷ 9 ∷ 6 ∷ 0 ∷ 8 ∷ 6 ∷ 0 ∷ 5 ∷ 12 ∷ 0 ∷ []) ++ (11 ∷ 0 ∷ 0 ∷ 11 ∷ 0 ∷ 0 ∷ []))

@@ -1,5 +1,5 @@
--- A planner's text: rows P1 to P15 for its lines, their words, and the words that a line may begin with. What is due is read off the sentence
--- that stands above each. \n is a line feed, \r a carriage return, \t a tab.
+-- A planner's text: rows P1 to P15 for its lines, their words, and the words that a line may begin with. What is due is
+-- read off the sentence that stands above each. \n is a line feed, \r a carriage return, \t a tab.
 use Prim.Native.Nat.{ℕ}
 use Prim.Native.String.{String}
 use mathlib.Core.List.{List, [], _∷_, _++_, map}
@@ -20,14 +20,16 @@ linesIn s = eachTold (lines (octets s))
 abbrev pub wordsIn : String → List ℕ
 wordsIn s = eachTold (words (octets s))
 
--- octets that are no blanks: those beside the three, the line feed, the vertical tab 0B, the form feed 0C, the space A0 of Latin-1
+-- octets that are no blanks: those beside the three, the line feed, the vertical tab 0B, the
+-- form feed 0C, the space A0 of Latin-1
 abbrev pub noBlanks : List ℕ
 noBlanks = 0x00 ∷ 0x08 ∷ 0x0A ∷ 0x0B ∷ 0x0C ∷ 0x0E ∷ 0x1F ∷ 0x21 ∷ 0x2C ∷ 0x3B ∷ 0x85 ∷ 0xA0 ∷ []
 
 -- the words that a line may begin with, in the order of the format: the settings, then the reports
 abbrev pub allNames : List String
 allNames =
-    "tracks" ∷ "t1" ∷ "t2" ∷ "t3" ∷ "t4" ∷ "t5" ∷ "occupied" ∷ "free" ∷ "clock" ∷ "failed" ∷ "restored" ∷ "head" ∷ "normalise" ∷ "report" ∷ []
+    "tracks" ∷ "t1" ∷ "t2" ∷ "t3" ∷ "t4" ∷ "t5" ∷ "occupied" ∷ "free" ∷ "clock" ∷ "failed" ∷ "restored" ∷ "head"
+    ∷ "normalise" ∷ "report" ∷ []
 
 abbrev pub namesOf : List String → List ℕ
 namesOf l = map (λ s. nameOf (octets s)) l
@@ -85,7 +87,8 @@ wordRows =
     ++ rows 12 (map lower (octets "AMZ")) (octets "amz")
     ++ rows 12 (map lower (octets "amz0159@[`{")) (octets "amz0159@[`{")
     ++ rows 12 (map lower (0x00 ∷ 0x7F ∷ 0xC1 ∷ 0xDA ∷ 0xFF ∷ [])) (0x00 ∷ 0x7F ∷ 0xC1 ∷ 0xDA ∷ 0xFF ∷ [])
-    -- P13: the settings are tracks and t1 to t5; the reports occupied, free, clock, failed, restored, head, normalise, report
+    -- P13: the settings are tracks and t1 to t5; the reports occupied, free, clock, failed,
+    -- restored, head, normalise, report
     ++ rows 13 (namesOf allNames) (0 ∷ 1 ∷ 2 ∷ 3 ∷ 4 ∷ 5 ∷ 6 ∷ 7 ∷ 8 ∷ 9 ∷ 10 ∷ 11 ∷ 12 ∷ 13 ∷ [])
     -- P14: in either case
     ++ rows 14 (namesOf ("TRACKS" ∷ "T1" ∷ "T2" ∷ "T3" ∷ "T4" ∷ "T5" ∷ [])) (0 ∷ 1 ∷ 2 ∷ 3 ∷ 4 ∷ 5 ∷ [])
@@ -94,5 +97,6 @@ wordRows =
     ++ rows 14 (namesOf ("Tracks" ∷ "fREE" ∷ "nOrMaLiSe" ∷ [])) (0 ∷ 7 ∷ 12 ∷ [])
     -- P15: and no other word is one: each letter in turn another, left out, or doubled
     ++ each 15 14 (together (map (λ s. map nameOf (misspelt (octets s))) allNames))
-    ++ each 15 14 (namesOf ("" ∷ "t" ∷ "t0" ∷ "t6" ∷ "t11" ∷ "1" ∷ "track" ∷ "trackst1" ∷ "freed" ∷ "normalize" ∷ "normal" ∷ "ticks" ∷ "[rom" ∷ []))
+    ++ each 15 14 (namesOf ("" ∷ "t" ∷ "t0" ∷ "t6" ∷ "t11" ∷ "1" ∷ "track" ∷ "trackst1" ∷ "freed" ∷ "normalize"
+    ∷ "normal" ∷ "ticks" ∷ "[rom" ∷ []))
     ++ each 15 14 (map nameOf ((markTyped ++ octets "t1") ∷ (0x54 ∷ 0x11 ∷ []) ∷ []))

@@ -8,24 +8,31 @@ use borrow.Author.Needs.{needs}
 use lib.ListN.{drop, length}
 use Rattle.json.proofs.Behind.{part-behind, part-first, part-length}
 use Rattle.json.proofs.Named.{name-taken, no-separator-named, no-string-named}
-use Rattle.json.proofs.Places.{in-text}
+use Rattle.json.proofs.Places.{found-in-text, in-text}
 use Rattle.json.proofs.Quoted.{no-string}
 use Rattle.rules_json.specs.Reader.{stringSize}
 use Rattle.json.proofs.strings.member_name.Statement.{statement}
 use Rattle.json.proofs.strings.member_name.Tie as tie
+
+-- from the first octet back to the start, and from the colon back to the blanks before it
+abbrev start : tie.After-octet → tie.Start
+start c = c .before .before
+
+abbrev separator : tie.After-struct-known2 → tie.After-past-blanks
+separator c = c .before .before .before
 
 octet-requires : tie.Need-octet-requires
 octet-requires c κs = search needs
 
 returns : tie.Need-returns
 returns c =
-    let given = c .before .before .before .args in
+    let given = start (c .before) .args in
     no-string-named (given .text .now) (given .at) (given .at)
     (no-string (given .text .now) (given .at) (λ e. c .if1 .taken (c .before .octet .ensures ∙ e))) refl
 
-within : (c : tie.Else1) → c .before .before .before .args .at < length (c .before .before .before .args .text .now)
+within : (c : tie.Else1) → start (c .before) .args .at < length (start (c .before) .args .text .now)
 within c =
-    let given = c .before .before .before .args in
+    let given = start (c .before) .args in
     in-text (given .text .now) (given .at) (λ e. omega (arith, c .before .octet .ensures, c .if1 .left))
 
 sub-string : tie.Need-sub-string
@@ -39,12 +46,12 @@ part-string-end c = search needs
 
 string-requires : tie.Need-string-requires
 string-requires c κs =
-    let given = c .before .before .before .before .args in
+    let given = start (c .before .before) .args in
     part-first (given .text .now) (given .at) ∙ sym (c .before .before .octet .ensures) ∙ c .before .if1 .left
 
 module _ (c : tie.After-string) where
   abbrev given : tie.Start
-  given = c .before .before .before .before .before
+  given = start (c .before .before .before)
 
   abbrev lent : List ℕ
   lent = given .args .text .now
@@ -71,20 +78,20 @@ past-blanks-requires c κs = search needs
 
 returns-3 : tie.Need-returns-3
 returns-3 c =
-    let separator = c .before .before in
-    let read = separator .before .before in
-    no-separator-named (lent read) (place read) _ (past read) (λ e. separator .before .if2 .left (omega arith)) _
-    (separator .past-blanks .ensures .place)
-    (λ e. c .if3 .taken (separator .past-blanks .ensures .octet ∙ e))
+    let skipped = c .before .before in
+    let read = skipped .before .before in
+    no-separator-named (lent read) (place read) _ (past read) (λ e. skipped .before .if2 .left (omega arith)) _
+    (skipped .past-blanks .ensures .place)
+    (λ e. c .if3 .taken (skipped .past-blanks .ensures .octet ∙ e))
 
 add-blanks : tie.Need-add-blanks
 add-blanks c =
-    let separator = c .before .before .before in
-    let found = separator .past-blanks in
+    let skipped = separator c in
+    let found = skipped .past-blanks in
+    let text = lent (skipped .before .before) in
     omega (
       arith,
-      in-text (lent (separator .before .before)) (found .result .place)
-          (λ e. omega (arith, found .ensures .octet, c .before .if3 .left)),
+      found-in-text text (found .result .place) (found .ensures .octet) (λ e. omega (arith, c .before .if3 .left)),
     )
 
 blanks-requires : tie.Need-blanks-requires
@@ -92,11 +99,11 @@ blanks-requires c κs = search needs
 
 returns-4 : tie.Need-returns-4
 returns-4 c =
-    let separator = c .before .before .before .before in
-    let read = separator .before .before in
-    name-taken (lent read) (place read) _ (past read) (λ e. separator .before .if2 .left (omega arith)) _
-    (separator .past-blanks .ensures .place)
-    (sym (separator .past-blanks .ensures .octet) ∙ c .before .before .if3 .left) _ (c .blanks .ensures)
+    let skipped = separator (c .before) in
+    let read = skipped .before .before in
+    name-taken (lent read) (place read) _ (past read) (λ e. skipped .before .if2 .left (omega arith)) _
+    (skipped .past-blanks .ensures .place)
+    (sym (skipped .past-blanks .ensures .octet) ∙ c .before .before .if3 .left) _ (c .blanks .ensures)
 
 pub member-name-spec : {M : Type 1} → statement M
 member-name-spec =

@@ -28,6 +28,10 @@ Inv-loop head place₀ place = stringEnd head place ≡ stringSize head
 abbrev μ-loop : tie.MeasureT-loop
 μ-loop head place₀ place = length head - place
 
+-- from the octet read back to the loop
+abbrev from-read : tie.After-shared-slice-known2 Inv-loop μ-loop → tie.At-loop Inv-loop μ-loop
+from-read c = c .before .before
+
 loop-holds : tie.Need-loop-holds Inv-loop μ-loop
 loop-holds c = string-begins (c .before .args .head .now) (c .before .pre)
 
@@ -42,7 +46,7 @@ loop-less c = search needs
 
 loop-again : tie.Need-loop-again Inv-loop μ-loop
 loop-again c =
-    let turn = c .before .before .before in
+    let turn = from-read (c .before) in
     sym (string-runs (turn .before .before .args .head .now) (turn .loop .place) (c .if1 .taken)) ∙ turn .loop .inv
 
 add-result : tie.Need-add-result Inv-loop μ-loop
@@ -50,7 +54,7 @@ add-result c = search needs
 
 returns : tie.Need-returns Inv-loop μ-loop
 returns c =
-    let turn = c .before .before .before .before in
+    let turn = from-read (c .before .before) in
     (sym (string-closes _ _ (c .if2 .taken)) ∙ turn .loop .inv, omega arith)
 
 sub-character : tie.Need-sub-character Inv-loop μ-loop
@@ -67,7 +71,7 @@ character-requires c κs = search needs
 
 module _ (c : tie.After-character Inv-loop μ-loop) where
   abbrev turn : tie.At-loop Inv-loop μ-loop
-  turn = c .before .before .before .before .before .before
+  turn = from-read (c .before .before .before .before)
 
   abbrev lent : List ℕ
   lent = turn .before .before .args .head .now

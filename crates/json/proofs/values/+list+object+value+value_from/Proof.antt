@@ -52,6 +52,11 @@ module _ (t : ℕ) where
   value-returns : value-lts.Need-returns (value-calls t) (value-at t) value.Post
   value-returns c = c .value-from .ensures
 
+  -- from the first test left back to the start
+  abbrev from-start : value-from-lts.Else1 (from-calls t) (value-from-at t) value-from.Post
+      → value-from-lts.Start (from-calls t) (value-from-at t) value-from.Post
+  from-start c = c .before .before
+
   from-object-requires : value-from-lts.Need-object-requires (from-calls t) (value-from-at t) value-from.Post
   from-object-requires c κs = (omega arith, sym (c .before .before .pre .1) ∙ c .if1 .taken)
 
@@ -59,17 +64,17 @@ module _ (t : ℕ) where
   from-returns c = c .object .ensures
 
   from-list-requires : value-from-lts.Need-list-requires (from-calls t) (value-from-at t) value-from.Post
-  from-list-requires c κs = (omega arith, sym (c .before .before .before .pre .1) ∙ c .if2 .taken)
+  from-list-requires c κs = (omega arith, sym (from-start (c .before) .pre .1) ∙ c .if2 .taken)
 
   from-returns-2 : value-from-lts.Need-returns-2 (from-calls t) (value-from-at t) value-from.Post
   from-returns-2 c = c .list .ensures
 
   from-scalar-requires : value-from-lts.Need-scalar-requires (from-calls t) (value-from-at t) value-from.Post
-  from-scalar-requires c κs = c .before .before .before .pre .1
+  from-scalar-requires c κs = from-start (c .before) .pre .1
 
   from-returns-3 : value-from-lts.Need-returns-3 (from-calls t) (value-from-at t) value-from.Post
   from-returns-3 c =
-      let start = c .before .before .before .before in
+      let start = from-start (c .before .before) in
       c .scalar .ensures
       ∙ ap (start .args .at +_)
       (sym

@@ -11,6 +11,10 @@ use Rattle.json.proofs.Scalars.{word-short}
 use Rattle.json.proofs.values.literal.Statement.{statement}
 use Rattle.json.proofs.values.literal.Tie as tie
 
+-- from the word read back to the start
+abbrev start : tie.After-word → tie.Start
+start c = c .before .before .before .before
+
 sub-word : tie.Need-sub-word
 sub-word c = search needs
 
@@ -25,13 +29,13 @@ word-requires c κs = search needs
 
 add-result : tie.Need-add-result
 add-result c =
-    let given = c .before .before .before .before .args in
+    let given = start c .args in
     let part = take (length (given .text .now) - given .at) (drop (given .at) (given .text .now)) in
     omega (arith, c .word .ensures, word-short (given .spelt .now) part)
 
 returns : tie.Need-returns
 returns c =
-    let given = c .before .before .before .before .args in
+    let given = start c .args in
     let whole = part-behind (given .text .now) (given .at) in
     ap (given .at +_) (c .word .ensures ∙ ap (wordSize (given .spelt .now)) whole)
 

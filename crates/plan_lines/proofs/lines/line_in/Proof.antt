@@ -29,7 +29,8 @@ returns c =
     let told = found .before .before in
     let line = told .before .before .args .line .now in
     nothing-said line _ (found .next-word .result .start) (found .next-word .result .past)
-    (ap (λ k. take k line) (told .before-comment .ensures .0) ∙ spoken-is line) (found .next-word .ensures) (c .before .if1 .taken) (c .report .ensures)
+    (ap (λ k. take k line) (told .before-comment .ensures .0) ∙ spoken-is line) (found .next-word .ensures)
+    (c .before .if1 .taken) (c .report .ensures)
 
 sub-name-of : tie.Need-sub-name-of
 sub-name-of c = search needs
@@ -67,7 +68,8 @@ returns-2 c =
     let past = found .next-word .result .past in
     something-said line spoken (found .next-word .result .start) past
     (ap (λ k. take k line) (told .before-comment .ensures .0) ∙ spoken-is line) (found .next-word .ensures)
-    (named .name-of .result) _ (other .if1 .left) (c .line-said .ensures) (named .name-of .ensures) (to-the-end spoken past)
+    (named .name-of .result) _ (other .if1 .left) (c .line-said .ensures) (named .name-of .ensures)
+    (to-the-end spoken past)
 
 pub line-in-spec : {M : Type 1} → statement M
 line-in-spec =

@@ -43,12 +43,17 @@ returns c =
     let third = fifth .before .before in
     let first = third .before .before in
     let a = first .before .before .args in
-    let read = six-read (words (a .behind .now)) (first .number-from .ensures .1 .0) (third .before .number-from2 .ensures .1 .0)
-    (third .number-from3 .ensures .1 .0) (fifth .before .number-from4 .ensures .1 .0) (fifth .number-from5 .ensures .1 .0)
-    (first .number-from .ensures .0) (third .before .number-from2 .ensures .0) (third .number-from3 .ensures .0)
-    (fifth .before .number-from4 .ensures .0) (fifth .number-from5 .ensures .0) (numbered .number-from6 .ensures .0) in
+    let of-first = first .number-from .ensures in
+    let of-second = third .before .number-from2 .ensures in
+    let of-third = third .number-from3 .ensures in
+    let of-fourth = fifth .before .number-from4 .ensures in
+    let of-fifth = fifth .number-from5 .ensures in
+    let read = six-read (words (a .behind .now))
+    (of-first .1 .0) (of-second .1 .0) (of-third .1 .0) (of-fourth .1 .0) (of-fifth .1 .0)
+    (of-first .0) (of-second .0) (of-third .0) (of-fourth .0) (of-fifth .0) (numbered .number-from6 .ensures .0) in
     let tested = c .before .before in
-    line-said (a .name) (words (a .behind .now)) read (tested .before .mosts-of .result) (tested .before .mosts-of .ensures)
+    let most = tested .before .mosts-of in
+    line-said (a .name) (words (a .behind .now)) read (most .result) (most .ensures)
     (c .before .name-fault .ensures) (tested .six-faults .ensures) (c .filled-by .ensures)
 
 pub line-said-spec : {M : Type 1} → statement M

@@ -1,6 +1,7 @@
 -- `report_of`: a report of the kind that the name says.
 -- Assumes nothing.
 use Prim.Native.Nat.{ℕ}
+use mathlib.Core.List.{List}
 use mathlib.Core.Path.{_≡_, ap, sym, _∙_}
 use lib.ListN.{getD}
 use native.Mathlib.Omega.{arith}
@@ -62,20 +63,28 @@ any-report-requires c κs = search needs
 report-requires : tie.Need-report-requires
 report-requires c κs = search needs
 
+-- what is given, and what its first two numbers say
 module _ (q : tie.After-sixteen-bits) where
-  abbrev first : q .before .before .byte .result ≡ asByte (getD (q .before .before .before .args .t2) 0 0)
+  abbrev start : tie.Start
+  start = q .before .before .before
+
+  abbrev name : ℕ
+  name = start .args .name
+
+  abbrev numbers : List ℕ
+  numbers = start .args .t2
+
+  abbrev first : q .before .before .byte .result ≡ asByte (getD numbers 0 0)
   first = q .before .before .byte .ensures
 
-  abbrev second : q .before .byte2 .result ≡ asByte (getD (q .before .before .before .args .t2) 1 0)
+  abbrev second : q .before .byte2 .result ≡ asByte (getD numbers 1 0)
   second = q .before .byte2 .ensures
 
-  abbrev number : q .sixteen-bits .result ≡ asSixteenBits (getD (q .before .before .before .args .t2) 0 0)
+  abbrev number : q .sixteen-bits .result ≡ asSixteenBits (getD numbers 0 0)
   number = q .sixteen-bits .ensures
 
-  by-name : {k : ℕ} → q .before .before .before .args .name ≡ k
-      → filledBy k (q .before .before .before .args .t2)
-      ≡ filledBy (q .before .before .before .args .name) (q .before .before .before .args .t2)
-  by-name e = sym (ap (λ k. filledBy k (q .before .before .before .args .t2)) e)
+  by-name : {k : ℕ} → name ≡ k → filledBy k numbers ≡ filledBy name numbers
+  by-name e = sym (ap (λ k. filledBy k numbers) e)
 
 returns : tie.Need-returns
 unfolding filledBy
@@ -111,7 +120,9 @@ returns-6 : tie.Need-returns-6
 unfolding filledBy
 returns-6 c =
     let q = c .before .before .before in
-    c .condition .ensures ∙ (λ i. condition (first q i) (c .before .sixteen-bits2 .ensures i)) ∙ by-name q (c .before .before .match .keys6)
+    c .condition .ensures
+    ∙ (λ i. condition (first q i) (c .before .sixteen-bits2 .ensures i))
+    ∙ by-name q (c .before .before .match .keys6)
 
 returns-7 : tie.Need-returns-7
 unfolding filledBy
@@ -126,15 +137,14 @@ returns-8 c =
 returns-9 : tie.Need-returns-9
 returns-9 c =
     let q = c .before .before in
-    let a = q .before .before .before .args in
-    let ten = c .before .match .rest .0 .0 .0 in
+    let rest = c .before .match .rest in
+    let ten = rest .0 .0 .0 in
     let six = ten .0 .0 .0 .0 in
-    let seven-past = past (a .name) (q .before .before .before .pre) (six .1) in
-    let nine-past = past (a .name) (past (a .name) seven-past (ten .0 .0 .0 .1)) (ten .0 .0 .1) in
-    let eleven-past = past (a .name) (past (a .name) nine-past (ten .0 .1)) (ten .1) in
-    c .report .ensures
-    ∙ filled-other (a .name) (a .t2)
-    (past (a .name) (past (a .name) (past (a .name) eleven-past (c .before .match .rest .0 .0 .1)) (c .before .match .rest .0 .1)) (c .before .match .rest .1))
+    let seven-past = past (name q) (start q .pre) (six .1) in
+    let nine-past = past (name q) (past (name q) seven-past (ten .0 .0 .0 .1)) (ten .0 .0 .1) in
+    let eleven-past = past (name q) (past (name q) nine-past (ten .0 .1)) (ten .1) in
+    let all-but-one = past (name q) (past (name q) eleven-past (rest .0 .0 .1)) (rest .0 .1) in
+    c .report .ensures ∙ filled-other (name q) (numbers q) (past (name q) all-but-one (rest .1))
 
 pub report-of-spec : {M : Type 1} → statement M
 report-of-spec =

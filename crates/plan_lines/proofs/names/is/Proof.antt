@@ -16,9 +16,13 @@ Inv-loop word name place₀ place = (place ≤ length word) × AlikeFrom lower w
 abbrev μ-loop : tie.MeasureT-loop
 μ-loop word name place₀ place = length word - place
 
+-- from the test of the two lengths back to the start
+abbrev start : tie.After-shared-slice-known2 Inv-loop μ-loop → tie.Start Inv-loop μ-loop
+start c = c .before .before
+
 returns : tie.Need-returns Inv-loop μ-loop
 returns c =
-    let a = c .before .before .before .args in
+    let a = start (c .before) .args in
     same-unlike lower (a .word .now) (a .name .now) (c .if1 .taken)
 
 loop-holds : tie.Need-loop-holds Inv-loop μ-loop
@@ -39,10 +43,10 @@ returns-2 : tie.Need-returns-2 Inv-loop μ-loop
 returns-2 c =
     let read = c .before .before in
     let turn = read .before .before in
-    let start = turn .before .before in
-    let a = start .before .before .before .args in
-    same-not lower (a .word .now) (a .name .now) (turn .before .loop .place) (turn .before .loop .inv .1) (start .if1 .left) (turn .loop-test .taken)
-    (λ e. c .if2 .taken (read .lower .ensures ∙ e))
+    let loop = turn .before in
+    let a = start (loop .before .before) .args in
+    same-not lower (a .word .now) (a .name .now) (loop .loop .place) (loop .loop .inv .1) (loop .before .if1 .left)
+    (turn .loop-test .taken) (λ e. c .if2 .taken (read .lower .ensures ∙ e))
 
 add-place : tie.Need-add-place Inv-loop μ-loop
 add-place c = search needs
@@ -54,18 +58,19 @@ loop-again : tie.Need-loop-again Inv-loop μ-loop
 loop-again c =
     let read = c .before .before in
     let turn = read .before .before in
-    let start = turn .before .before in
-    let a = start .before .before .before .args in (
+    let loop = turn .before in
+    let a = start (loop .before .before) .args in (
       search needs,
-      same-on lower (a .word .now) (a .name .now) (turn .before .loop .place) (turn .before .loop .inv .1) (start .if1 .left) (turn .loop-test .taken)
-          (sym (read .lower .ensures) ∙ c .if2 .left),
+      same-on lower (a .word .now) (a .name .now) (loop .loop .place) (loop .loop .inv .1) (loop .before .if1 .left)
+          (turn .loop-test .taken) (sym (read .lower .ensures) ∙ c .if2 .left),
     )
 
 returns-3 : tie.Need-returns-3 Inv-loop μ-loop
 returns-3 c =
-    let start = c .before .before in
-    let a = start .before .before .before .args in
-    same-over lower (a .word .now) (a .name .now) (c .before .loop .place) (c .before .loop .inv .1) (start .if1 .left) (c .loop-test .left)
+    let loop = c .before in
+    let a = start (loop .before .before) .args in
+    same-over lower (a .word .now) (a .name .now) (loop .loop .place) (loop .loop .inv .1) (loop .before .if1 .left)
+    (c .loop-test .left)
 
 pub is-spec : {M : Type 1} → statement M
 is-spec =

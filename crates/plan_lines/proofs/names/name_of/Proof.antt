@@ -17,8 +17,11 @@ setting-name-requires : tie.Need-setting-name-requires
 setting-name-requires c κs = search needs
 
 returns : tie.Need-returns
-returns c = c .setting-name .ensures ∙ ap (placeFrom 0 (take 6 names) (map lower (c .before .before .before .args .word .now))) (c .before .report-name .ensures)
-    ∙ name-from (c .before .before .before .args .word .now)
+returns c =
+    let word = c .before .before .before .args .word .now in
+    c .setting-name .ensures
+    ∙ ap (placeFrom 0 (take 6 names) (map lower word)) (c .before .report-name .ensures)
+    ∙ name-from word
 
 pub name-of-spec : {M : Type 1} → statement M
 name-of-spec = tie.close (tie.spec report-name-requires setting-name-requires returns)

@@ -28,7 +28,12 @@ returns c =
     let second = fourth .before .before in
     let first = second .before in
     let name = first .before .args .name in
-    (λ i. first .most .ensures i ∷ second .most2 .ensures i ∷ fourth .before .most3 .ensures i ∷ fourth .most4 .ensures i ∷ c .most5 .ensures i ∷ 0 ∷ [])
+    (λ i.
+    first .most .ensures i
+    ∷ second .most2 .ensures i
+    ∷ fourth .before .most3 .ensures i
+    ∷ fourth .most4 .ensures i
+    ∷ c .most5 .ensures i ∷ 0 ∷ [])
     ∙ mosts-by name (search needs)
 
 pub mosts-of-spec : {M : Type 1} → statement M

@@ -19,19 +19,23 @@ returns-3 c = simp (ne-eqb _ _ (c .before .if1 .left), eq-eqb _ _ (c .if3 .taken
 
 returns-4 : tie.Need-returns-4
 unfolding numberFaultOf
-returns-4 c = simp (ne-eqb _ _ (c .before .before .if1 .left), ne-eqb _ _ (c .before .if3 .left), le-leb _ _ (c .if4 .taken))
+returns-4 c =
+    let third = c .before in
+    simp (ne-eqb _ _ (third .before .if1 .left), ne-eqb _ _ (third .if3 .left), le-leb _ _ (c .if4 .taken))
 
 returns-5 : tie.Need-returns-5
 unfolding numberFaultOf
 returns-5 c =
     let third = c .before .before in
-    simp (ne-eqb _ _ (third .before .if1 .left), ne-eqb _ _ (third .if3 .left), lt-leb _ _ (c .before .if4 .left), eq-eqb _ _ (c .if5 .taken))
+    let great = lt-leb _ _ (c .before .if4 .left) in
+    simp (ne-eqb _ _ (third .before .if1 .left), ne-eqb _ _ (third .if3 .left), great, eq-eqb _ _ (c .if5 .taken))
 
 returns-6 : tie.Need-returns-6
 unfolding numberFaultOf
 returns-6 c =
     let third = c .before .before in
-    simp (ne-eqb _ _ (third .before .if1 .left), ne-eqb _ _ (third .if3 .left), lt-leb _ _ (c .before .if4 .left), ne-eqb _ _ (c .if5 .left))
+    let great = lt-leb _ _ (c .before .if4 .left) in
+    simp (ne-eqb _ _ (third .before .if1 .left), ne-eqb _ _ (third .if3 .left), great, ne-eqb _ _ (c .if5 .left))
 
 pub number-fault-spec : {M : Type 1} → statement M
 number-fault-spec = tie.close (tie.spec returns returns-2 returns-3 returns-4 returns-5 returns-6)

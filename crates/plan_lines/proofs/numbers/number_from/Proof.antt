@@ -6,14 +6,19 @@ use borrow.Author.Needs.{needs}
 use Rattle.plan_lines.proofs.numbers.number_from.Statement.{statement}
 use Rattle.plan_lines.proofs.numbers.number_from.Tie as tie
 
+-- from the next word back to the start
+abbrev start : tie.After-next-word → tie.Start
+start c = c .before .before
+
 next-word-requires : tie.Need-next-word-requires
 next-word-requires c κs = search needs
 
 returns : tie.Need-returns
 returns c =
-    let a = c .before .before .before .args in
+    let a = start (c .before) .args in
     let next = c .before .next-word in
-    let (absent, behind) = none-from (a .line .now) (a .place) (next .result .start) (next .result .past) (next .ensures) (c .if1 .taken) in
+    let (absent, behind) = none-from (a .line .now) (a .place) (next .result .start) (next .result .past)
+    (next .ensures) (c .if1 .taken) in
     (absent, (behind, next .ensures .within))
 
 sub-number-in : tie.Need-sub-number-in
@@ -32,8 +37,9 @@ returns-2 : tie.Need-returns-2
 returns-2 c =
     let turn = c .before .before in
     let next = turn .before .next-word in
-    let a = turn .before .before .before .args in
-    let (number, behind) = number-from (a .line .now) (a .place) (next .result .start) (next .result .past) (next .ensures) (turn .if1 .left) in
+    let a = start (turn .before) .args in
+    let (number, behind) = number-from (a .line .now) (a .place) (next .result .start) (next .result .past)
+    (next .ensures) (turn .if1 .left) in
     (c .number-in .ensures ∙ number, (behind, next .ensures .within))
 
 pub number-from-spec : {M : Type 1} → statement M

@@ -18,6 +18,10 @@ Inv-loop text wanted count₀ count = (count ≤ length text) × Passed (λ b. i
 abbrev μ-loop : tie.MeasureT-loop
 μ-loop text wanted count₀ count = length text - count
 
+-- from a turn back to the start
+abbrev start : tie.In-loop Inv-loop μ-loop → tie.Start Inv-loop μ-loop
+start c = c .before .before .before
+
 loop-holds : tie.Need-loop-holds Inv-loop μ-loop
 loop-holds c = (omega arith, run-begins _ _)
 
@@ -34,7 +38,7 @@ returns : tie.Need-returns Inv-loop μ-loop
 returns c =
     let answer = c .before .before in
     let turn = answer .before .before in
-    let wanted = turn .before .before .before .args .wanted in
+    let wanted = start turn .args .wanted in
     let found = c .before .agrees .ensures ∙ ap (isOrNot wanted) (answer .is-blank .ensures) in (
       run-over _ _ _ (turn .before .loop .inv .1) (turn .loop-test .taken) (sym found ∙ not-true _ (c .if1 .taken)),
       search needs,
@@ -50,7 +54,7 @@ loop-again : tie.Need-loop-again Inv-loop μ-loop
 loop-again c =
     let answer = c .before .before in
     let turn = answer .before .before in
-    let wanted = turn .before .before .before .args .wanted in
+    let wanted = start turn .args .wanted in
     let found = c .before .agrees .ensures ∙ ap (isOrNot wanted) (answer .is-blank .ensures) in (
       search needs,
       run-on _ _ _ (turn .before .loop .inv .1) (turn .loop-test .taken) (sym found ∙ not-false _ (c .if1 .left)),

@@ -35,7 +35,8 @@ returns-2 c =
     let asked = added .before .before .before in
     let given = asked .before .before .args in
     let so = sym (asked .before .is-report .ensures) ∙ not-false _ (asked .if1 .left) in
-    let down = put-down (given .found) (given .rows .now) (given .count) (given .line) _ so (put .put-line .ensures) in (
+    let down =
+    put-down (given .found) (given .rows .now) (given .count) (given .line) _ so (put .put-line .ensures) in (
       entered-after (given .found) _ _ _ _ so (add-one _) (added .append .ensures .0) (added .append .ensures .1),
       (down, λ e. search needs),
     )

@@ -51,12 +51,15 @@ enter-requires c κs = search needs
 
 -- where the function began, from where the loop began
 abbrev start : tie.After-after-mark Inv-loop μ-loop → tie.Start Inv-loop μ-loop
-start c = let made = c .before .before .before in made .before .before .before
+start c = c .before .before .before .before .before .before
+
+-- where a turn's line was read, from where the turn ends
+abbrev line-read : tie.After-next Inv-loop μ-loop → tie.After-line-from Inv-loop μ-loop
+line-read c = c .before .before .before .before .before
 
 add-line : tie.Need-add-line Inv-loop μ-loop
 add-line c =
-    let read = c .before .before .before in
-    let tested = read .before .before .before in
+    let tested = line-read c .before in
     omega (arith, tested .loop-test .taken, tested .before .loop .inv .2, start (tested .before .before) .good)
 
 loop-less : tie.Need-loop-less Inv-loop μ-loop
@@ -65,8 +68,7 @@ loop-less c = search needs
 loop-again : tie.Need-loop-again Inv-loop μ-loop
 loop-again c =
     let after = c .before .enter .ensures in
-    let lent = c .before .before .before in
-    let read = lent .before .before in
+    let read = line-read c in
     let first = read .line-from .ensures in
     let turn = read .before .before .loop in
     let inv = turn .inv in

@@ -30,12 +30,12 @@ Inv-loop text at place₀ ours₀ place ours = Seeking text at place ours
 abbrev μ-loop : tie.MeasureT-loop
 μ-loop text at place₀ ours₀ place ours = length text - place
 
--- from the loop back to the start
-abbrev opened : tie.At-loop Inv-loop μ-loop → tie.After-octet Inv-loop μ-loop
-opened c = c .before .before .before
+-- from the first octet and from the loop back to the start
+abbrev from-opened : tie.After-octet Inv-loop μ-loop → tie.Start Inv-loop μ-loop
+from-opened c = c .before .before .before
 
 abbrev from-loop : tie.At-loop Inv-loop μ-loop → tie.Start Inv-loop μ-loop
-from-loop c = opened c .before .before .before
+from-loop c = from-opened (c .before .before .before)
 
 add-blanks : tie.Need-add-blanks Inv-loop μ-loop
 add-blanks c =
@@ -50,7 +50,7 @@ octet-requires c κs = search needs
 
 add-without-members : tie.Need-add-without-members Inv-loop μ-loop
 add-without-members c =
-    let start = c .before .before .before .before in
+    let start = from-opened (c .before) in
     omega (
       arith,
       in-text (start .args .text .now) (c .before .before .blanks .result)
@@ -63,7 +63,7 @@ without-members-requires c κs = search needs
 returns : tie.Need-returns Inv-loop μ-loop
 returns c =
     let opened = c .before .before in
-    let start = opened .before .before .before in
+    let start = from-opened opened in
     object-empty (start .args .text .now) (start .args .at) (start .pre) _ _ (opened .before .blanks .ensures)
     (opened .octet .ensures) (c .before .if1 .taken)
     (c .without-members .ensures)
@@ -74,7 +74,7 @@ nowhere-requires c κs = search needs
 loop-holds : tie.Need-loop-holds Inv-loop μ-loop
 loop-holds c =
     let opened = c .before .before in
-    let start = opened .before .before .before in
+    let start = from-opened opened in
     object-begins (start .args .text .now) (start .args .at) (start .pre) _ _ (opened .before .blanks .ensures)
     (opened .octet .ensures) (c .before .if1 .left)
     (c .nowhere .ensures)
@@ -189,9 +189,13 @@ add-blanks-2 c =
 blanks-requires-3 : tie.Need-blanks-requires-3 Inv-loop μ-loop
 blanks-requires-3 c κs = search needs
 
+-- from the next place back to the member read
+abbrev behind : tie.After-blanks3 Inv-loop μ-loop → tie.After-octet2 Inv-loop μ-loop
+behind c = c .before .before .before
+
 loop-less : tie.Need-loop-less Inv-loop μ-loop
 loop-less c =
-    let last = c .before .before .before in
+    let last = behind c in
     omega (
       arith,
       named last .before .loop-test .taken,
@@ -202,7 +206,7 @@ loop-less c =
     )
 
 loop-again : tie.Need-loop-again Inv-loop μ-loop
-loop-again c = member-on (read (c .before .before .before)) (c .before .if5 .left) (c .blanks3 .ensures)
+loop-again c = member-on (read (behind c)) (c .before .if5 .left) (c .blanks3 .ensures)
 
 without-members-requires-5 : tie.Need-without-members-requires-5 Inv-loop μ-loop
 without-members-requires-5 c κs = search needs

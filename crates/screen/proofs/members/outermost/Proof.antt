@@ -23,10 +23,10 @@ without-members-requires c κs = search needs
 
 returns-2 : tie.Need-returns-2
 returns-2 c =
-    let given = c .before .before .before .before .before .args in
-    no-object (given .text .now) (given .at)
-    (λ e. c .before .before .if1 .left (c .before .before .before .octet .ensures ∙ e)) (c .before .value .ensures)
-    (c .without-members .ensures)
+    let asked = c .before .before .before in
+    let given = asked .before .before .args in
+    no-object (given .text .now) (given .at) (λ e. c .before .before .if1 .left (asked .octet .ensures ∙ e))
+    (c .before .value .ensures) (c .without-members .ensures)
 
 pub outermost-spec : {M : Type 1} → statement M
 outermost-spec =

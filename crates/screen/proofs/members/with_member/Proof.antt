@@ -26,10 +26,11 @@ first-of-requires-3 c κs = search needs
 returns : tie.Need-returns
 unfolding withMember
 returns c =
+    let second = c .before .before in
+    let first = second .before .before in
     λ i. record {
-      station = c .before .before .before .before .first-of .ensures i;
-      aspect =
-          c .before .before .first-of2 .ensures i;
+      station = first .first-of .ensures i;
+      aspect = second .first-of2 .ensures i;
       tracks = c .first-of3 .ensures i;
     }
 

@@ -20,6 +20,10 @@ from-octet3 c = from-octet2 (c .before .before)
 abbrev from-octet4 : tie.After-octet4 → tie.Start
 from-octet4 c = from-octet3 (c .before .before)
 
+-- from the fourth digit back to the third
+abbrev behind : tie.After-stands-for2 → tie.After-stands-for
+behind c = c .before .before .before
+
 octet-requires : tie.Need-octet-requires
 octet-requires c κs = search needs
 
@@ -66,7 +70,7 @@ stands-for-requires-2 c κs = search needs
 returns-5 : tie.Need-returns-5
 returns-5 c =
     let fourth = c .before in
-    let third = fourth .before .before .before in
+    let third = behind fourth in
     let start = from-octet4 (third .before) in
     other-escape _ (start .pre .0) _ (start .pre .1)
     (λ u d. not-digit _ (fourth .before .octet5 .ensures) (fourth .stands-for2 .ensures) (c .if5 .taken) (d .fourth))
@@ -74,7 +78,7 @@ returns-5 c =
 returns-6 : tie.Need-returns-6
 returns-6 c =
     let fourth = c .before in
-    let third = fourth .before .before .before in
+    let third = behind fourth in
     let second = third .before .before .before in
     let first = second .before .before in
     let escape = first .before .before in

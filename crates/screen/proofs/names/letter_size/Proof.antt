@@ -11,7 +11,8 @@ octet-requires c κs = search needs
 
 returns : tie.Need-returns
 returns c =
-    stands-there _ (c .before .before .before .pre) _ (sym (c .before .octet .ensures) ∙ c .if1 .taken)
+    let first = c .before in
+    stands-there _ (first .before .before .pre) _ (sym (first .octet .ensures) ∙ c .if1 .taken)
 
 returns-2 : tie.Need-returns-2
 returns-2 c =

@@ -14,6 +14,13 @@ Inv-loop head word place₀ letter₀ place letter = Saying head word place lett
 abbrev μ-loop : tie.MeasureT-loop
 μ-loop head word place₀ letter₀ place letter = length word - letter
 
+-- from a turn back to the start, and from the size of its letter back to the turn
+abbrev start : tie.In-loop Inv-loop μ-loop → tie.Start Inv-loop μ-loop
+start c = c .before .before .before .before
+
+abbrev turn : tie.After-letter-size Inv-loop μ-loop → tie.In-loop Inv-loop μ-loop
+turn c = c .before .before .before
+
 loop-holds : tie.Need-loop-holds Inv-loop μ-loop
 loop-holds c = says-begins _ _ (c .before .before .pre .0)
 
@@ -31,20 +38,19 @@ shared-slice-read-letter-size c = search needs
 
 letter-size-requires : tie.Need-letter-size-requires Inv-loop μ-loop
 letter-size-requires c κs =
-    let turn = c .before .before in
-    let start = turn .before .before .before .before in
-    letter-of (start .args .word .now) (turn .before .loop .letter) (start .pre .1) (turn .loop-test .taken)
+    let now = c .before .before in
+    letter-of (start now .args .word .now) (now .before .loop .letter) (start now .pre .1) (now .loop-test .taken)
 
 returns : tie.Need-returns Inv-loop μ-loop
 returns c =
-    let turn = c .before .before .before .before in
-    says-other (turn .before .loop .inv) (turn .loop-test .taken) (c .before .letter-size .ensures)
-    (turn .before .before .before .before .pre .1) (c .if1 .taken)
+    let now = turn (c .before) in
+    says-other (now .before .loop .inv) (now .loop-test .taken) (c .before .letter-size .ensures) (start now .pre .1)
+    (c .if1 .taken)
 
 loop-again : tie.Need-loop-again Inv-loop μ-loop
 loop-again c =
-    let turn = c .before .before .before .before in
-    says-on (turn .before .loop .inv) (turn .loop-test .taken) (c .before .letter-size .ensures) (c .if1 .left)
+    let now = turn (c .before) in
+    says-on (now .before .loop .inv) (now .loop-test .taken) (c .before .letter-size .ensures) (c .if1 .left)
 
 add-place : tie.Need-add-place Inv-loop μ-loop
 add-place c = omega (arith, loop-again c .within-head)

@@ -19,6 +19,13 @@ use Rattle.screen.proofs.numbers.number.Statement.{statement}
 use Rattle.screen.proofs.numbers.number.Tie as tie
 use Rattle.screen.specs.Places.{goesOnWith}
 
+-- from the test of the first octet back to the start, and from that of the second back to the first
+abbrev from-test : tie.After-is-digit → tie.Start
+from-test c = c .before .before .before
+
+abbrev from-second : tie.After-goes-on-with → tie.Else1
+from-second c = c .before .before
+
 octet-requires : tie.Need-octet-requires
 octet-requires c κs = search needs
 
@@ -27,13 +34,14 @@ is-digit-requires c κs = search needs
 
 returns : tie.Need-returns
 returns c =
-    let given = c .before .before .before .before .args in
+    let tested = c .before in
+    let given = from-test tested .args in
     number-none (given .text .now) (given .place)
-    (ap digit (sym (c .before .before .octet .ensures)) ∙ sym (c .before .is-digit .ensures) ∙ not-true _ (c .if1 .taken))
+    (ap digit (sym (tested .before .octet .ensures)) ∙ sym (tested .is-digit .ensures) ∙ not-true _ (c .if1 .taken))
 
 module _ (c : tie.Else1) where
   abbrev start : tie.Start
-  start = c .before .before .before .before
+  start = from-test (c .before)
 
   abbrev lent : List ℕ
   lent = start .args .text .now
@@ -57,15 +65,16 @@ goes-on-with-requires : tie.Need-goes-on-with-requires
 goes-on-with-requires c κs = search needs
 
 sub-result : tie.Need-sub-result
-sub-result c = within-true 0x30 0x39 _ (a-digit (c .before .before .before)) .0
+sub-result c = within-true 0x30 0x39 _ (a-digit (from-second (c .before))) .0
 
 cast-result : tie.Need-cast-result
 cast-result c = search needs
 
 returns-2 : tie.Need-returns-2
 returns-2 c =
-    let first = c .before .before .before in
-    let ends = ap goesOnWith (sym (c .before .before .octet2 .ensures)) ∙ sym (c .before .goes-on-with .ensures)
+    let second = c .before in
+    let first = from-second second in
+    let ends = ap goesOnWith (sym (second .before .octet2 .ensures)) ∙ sym (second .goes-on-with .ensures)
     ∙ not-true _ (c .if2 .taken) in
     ap (λ b. b - 48) (first .before .before .octet .ensures)
     ∙ sym (number-at (lent first) (here first) (begins first) (alone-at (lent first) (here first) (begins first) ends))
@@ -75,7 +84,7 @@ value-requires c κs = search needs
 
 module _ (c : tie.After-value) where
   abbrev first : tie.Else1
-  first = c .before .before .before .before
+  first = from-second (c .before .before)
 
   ends : (here first ≤ c .value .result) × (c .value .result ≤ length (lent first))
   ends = number-ends (lent first) (here first) (begins first) (c .value .result) (c .value .ensures)

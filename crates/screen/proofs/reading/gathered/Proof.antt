@@ -7,13 +7,23 @@ use Rattle.screen.proofs.Given.{in-range, member-bad, member-good, memb
 use Rattle.screen.proofs.reading.gathered.Statement.{statement}
 use Rattle.screen.proofs.reading.gathered.Tie as tie
 
+-- from the test that no member is missing back to the start, and from what was read back to that test
+abbrev start : tie.After-struct-known3 → tie.Start
+start c = c .before .before .before .before
+
+abbrev placed : tie.After-tracks → tie.Else1
+placed c = c .before .before .before
+
+abbrev gained : tie.After-digits → tie.After-tracks
+gained c = c .before .before .before
+
 refused-requires : tie.Need-refused-requires
 refused-requires c κs = search needs
 
 returns : tie.Need-returns
 returns c =
-    member-missing (c .before .before .before .before .before .before .pre) (c .before .if1 .taken)
-    (c .refused .ensures)
+    let missing = c .before in
+    member-missing (start (missing .before) .pre) (missing .if1 .taken) (c .refused .ensures)
 
 number-requires : tie.Need-number-requires
 number-requires c κs = search needs
@@ -23,7 +33,8 @@ number-requires-2 c κs = search needs
 
 tracks-requires : tie.Need-tracks-requires
 tracks-requires c κs =
-    tracks-there (c .before .before .before .before .before .before .before .pre) (c .before .before .if1 .left)
+    let there = c .before .before in
+    tracks-there (start (there .before) .pre) (there .if1 .left)
 
 refused-requires-2 : tie.Need-refused-requires-2
 refused-requires-2 c κs = search needs
@@ -31,18 +42,16 @@ refused-requires-2 c κs = search needs
 returns-2 : tie.Need-returns-2
 returns-2 c =
     let read = c .before .before .before in
-    let placed = read .before .before .before in
-    member-bad (placed .before .before .before .before .before .pre) (placed .if1 .left)
+    member-bad (start (placed read .before) .pre) (placed read .if1 .left)
     (read .before .before .number .ensures) (read .before .number2 .ensures)
     (read .tracks .ensures) (c .before .if2 .taken) (c .refused2 .ensures)
 
 ranges : (c : tie.After-digits)
-    → (c .before .before .before .before .before .number .result ≤ 65535)
-    × (c .before .before .before .before .number2 .result ≤ 5)
+    → (gained c .before .before .number .result ≤ 65535)
+    × (gained c .before .number2 .result ≤ 5)
 ranges c =
-    let read = c .before .before .before in
-    let placed = read .before .before .before in
-    in-range (placed .before .before .before .before .before .pre) (placed .if1 .left)
+    let read = gained c in
+    in-range (start (placed read .before) .pre) (placed read .if1 .left)
     (read .before .before .number .ensures) (read .before .number2 .ensures) (read .tracks .ensures)
     (c .before .if2 .left)
 
@@ -54,9 +63,8 @@ cast-t14 c = omega (arith, ranges c)
 
 returns-3 : tie.Need-returns-3
 returns-3 c =
-    let read = c .before .before .before in
-    let placed = read .before .before .before in
-    member-good (placed .before .before .before .before .before .pre) (placed .if1 .left)
+    let read = gained c in
+    member-good (start (placed read .before) .pre) (placed read .if1 .left)
     (read .before .before .number .ensures) (read .before .number2 .ensures)
     (read .tracks .ensures) (c .before .if2 .left)
 

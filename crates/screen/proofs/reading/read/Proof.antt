@@ -5,6 +5,10 @@ use Rattle.screen.proofs.Receiving.{more-text, no-value, our-places, to
 use Rattle.screen.proofs.reading.read.Statement.{statement}
 use Rattle.screen.proofs.reading.read.Tie as tie
 
+-- from the outermost value back to the start
+abbrev start : tie.After-outermost → tie.Start
+start c = c .before .before .before .before
+
 refused-requires : tie.Need-refused-requires
 refused-requires c κs = search needs
 
@@ -23,7 +27,7 @@ refused-requires-2 c κs = search needs
 returns-2 : tie.Need-returns-2
 returns-2 c =
     let found = c .before .before in
-    no-value (found .before .before .before .before .args .text .now) (found .before .before .if1 .left)
+    no-value (start found .args .text .now) (found .before .before .if1 .left)
     (found .before .blanks .ensures) (found .outermost .ensures)
     (c .before .if2 .taken) (c .refused2 .ensures)
 
@@ -37,7 +41,7 @@ returns-3 : tie.Need-returns-3
 returns-3 c =
     let ended = c .before .before in
     let found = ended .before .before in
-    more-text (found .before .before .before .before .args .text .now) (found .before .before .if1 .left)
+    more-text (start found .args .text .now) (found .before .before .if1 .left)
     (found .before .blanks .ensures) (found .outermost .ensures)
     (ended .before .if2 .left) (ended .blanks2 .ensures) (c .before .if3 .taken) (c .refused3 .ensures)
 
@@ -45,7 +49,7 @@ gathered-requires : tie.Need-gathered-requires
 gathered-requires c κs =
     let ended = c .before .before in
     let found = ended .before .before in
-    our-places (found .before .before .before .before .args .text .now) (found .before .before .if1 .left)
+    our-places (start found .args .text .now) (found .before .before .if1 .left)
     (found .before .blanks .ensures) (found .outermost .ensures)
     (ended .before .if2 .left) (ended .blanks2 .ensures)
 
@@ -53,7 +57,7 @@ returns-4 : tie.Need-returns-4
 returns-4 c =
     let ended = c .before .before .before in
     let found = ended .before .before in
-    whole-text (found .before .before .before .before .args .text .now) (found .before .before .if1 .left)
+    whole-text (start found .args .text .now) (found .before .before .if1 .left)
     (found .before .blanks .ensures) (found .outermost .ensures)
     (ended .before .if2 .left) (ended .blanks2 .ensures) (c .before .before .if3 .left) (c .gathered .ensures)
 

@@ -32,13 +32,20 @@ Inv-loop text at place₀ digits₀ count₀ place digits count = Digits text at
 abbrev μ-loop : tie.MeasureT-loop
 μ-loop text at place₀ digits₀ count₀ place digits count = 5 - count
 
+-- from the list's first octet back to the start, and from the octet that a turn finds back to the loop
+abbrev from-first : tie.After-octet Inv-loop μ-loop → tie.Start Inv-loop μ-loop
+from-first c = c .before .before
+
+abbrev from-found : tie.After-octet3 Inv-loop μ-loop → tie.At-loop Inv-loop μ-loop
+from-found c = c .before .before
+
 -- where the list was opened, and from there and from the loop back to the start
 module _ (c : tie.After-octet2 Inv-loop μ-loop) where
   abbrev asked : tie.After-octet Inv-loop μ-loop
   asked = c .before .before .before
 
   abbrev from-opened : tie.Start Inv-loop μ-loop
-  from-opened = asked .before .before
+  from-opened = from-first asked
 
   is-list : at (from-opened .args .text .now) (from-opened .args .at) ≡ 0x5B
   is-list = sym (asked .octet .ensures) ∙ c .before .before .if1 .left
@@ -54,14 +61,14 @@ no-track-requires c κs = search needs
 
 returns : tie.Need-returns Inv-loop μ-loop
 returns c =
-    let given = c .before .before .before .before .args in
+    let given = from-first (c .before .before) .args in
     no-five (given .text .now) (given .at)
     (other-form (given .text .now) (given .at) (λ e. c .before .if1 .taken (c .before .before .octet .ensures ∙ e)))
     (c .no-track .ensures)
 
 add-blanks : tie.Need-add-blanks Inv-loop μ-loop
 add-blanks c =
-    let given = c .before .before .before .args in
+    let given = from-first (c .before) .args in
     omega (arith, in-text (given .text .now) (given .at) (λ e. omega arith))
 
 blanks-requires : tie.Need-blanks-requires Inv-loop μ-loop
@@ -97,7 +104,7 @@ no-track-requires-3 c κs = search needs
 
 returns-3 : tie.Need-returns-3 Inv-loop μ-loop
 returns-3 c =
-    let turn = c .before .before .before .before in
+    let turn = from-found (c .before .before) in
     let given = from-loop turn .args in
     no-five (given .text .now) (given .at)
     (other-digit (turn .loop .inv) _ (c .before .before .octet3 .ensures) (not-true _ (c .before .if3 .taken)))
@@ -114,7 +121,7 @@ add-count c = search needs
 
 add-blanks-2 : tie.Need-add-blanks-2 Inv-loop μ-loop
 add-blanks-2 c =
-    let turn = c .before .before .before in
+    let turn = from-found (c .before) in
     let given = from-loop turn in
     let (least, most) = zero-or-one (c .before .octet3 .result) (not-false _ (c .if3 .left)) in
     omega (
@@ -130,19 +137,22 @@ octet-requires-4 : tie.Need-octet-requires-4 Inv-loop μ-loop
 octet-requires-4 c κs = search needs
 
 module _ (c : tie.After-octet4 Inv-loop μ-loop) where
+  abbrev found : tie.After-octet3 Inv-loop μ-loop
+  found = c .before .before .before
+
   abbrev turn : tie.In-loop Inv-loop μ-loop
-  turn = c .before .before .before .before
+  turn = found .before
 
   abbrev start : tie.Start Inv-loop μ-loop
   start = from-loop (turn .before)
 
   read : DigitRead (start .args .text .now) (start .args .at) (turn .before .loop .place) (turn .before .loop .digits)
-      (turn .before .loop .count) (c .before .before .before .octet3 .result) (c .before .blanks2 .result)
+      (turn .before .loop .count) (found .octet3 .result) (c .before .blanks2 .result)
       (c .octet4 .result)
   read =
       record {
         so-far = turn .before .loop .inv;
-        found-is = c .before .before .before .octet3 .ensures;
+        found-is = found .octet3 .ensures;
         small = not-false _ (c .before .before .if3 .left);
         less = turn .loop-test .taken;
         skips = c .before .blanks2 .ensures;

@@ -9,18 +9,25 @@ use Rattle.screen.proofs.Ranges.{digits-tested, few, out-of-range}
 use Rattle.screen.proofs.writing.fits.Statement.{statement}
 use Rattle.screen.proofs.writing.fits.Tie as tie
 
+-- from the test of the numbers back to the start, and from that of the first digits back to the numbers
+abbrev start : tie.After-struct-known3 → tie.Start
+start c = c .before .before .before
+
+abbrev in-order : tie.After-some-above → tie.Else1
+in-order c = c .before .before .before .before
+
 twenty : (c : tie.Start) → length (c .args .message .digits) ≡ 20
 twenty c = search needs
 
 station : (c : tie.Start) → c .args .message .station ≤ 65535
 station c = search needs
 
-at-most-four : (c : tie.Else1) → c .before .before .before .before .args .message .tracks ≤ 4
-at-most-four c = few (c .before .before .before .before .args .message) (c .if1 .left)
+at-most-four : (c : tie.Else1) → start (c .before) .args .message .tracks ≤ 4
+at-most-four c = few (start (c .before) .args .message) (c .if1 .left)
 
 returns : tie.Need-returns
 returns c =
-    let given = c .before .before .before .before in
+    let given = start (c .before) in
     out-of-range (given .args .message) (station given) (c .if1 .taken)
 
 cast-shown : tie.Need-cast-shown
@@ -32,12 +39,12 @@ mul-shown c = search needs
 array-share-prefix-digits : tie.Need-array-share-prefix-digits
 array-share-prefix-digits c =
     let tested = c .before .before in
-    omega (arith, at-most-four tested, twenty (tested .before .before .before .before))
+    omega (arith, at-most-four tested, twenty (start (tested .before)))
 
 slice-aggregate-some-above : tie.Need-slice-aggregate-some-above
 slice-aggregate-some-above c =
     let tested = c .before .before .before in
-    let given = tested .before .before .before .before in
+    let given = start (tested .before) in
     let message = given .args .message in
     omega (arith, at-most-four tested, twenty given, length-take (5 * message .tracks) (message .digits))
 
@@ -45,14 +52,14 @@ some-above-requires : tie.Need-some-above-requires
 some-above-requires c κs = search needs
 
 sub-some-above : tie.Need-sub-some-above
-sub-some-above c = omega (arith, at-most-four (c .before .before .before .before))
+sub-some-above c = omega (arith, at-most-four (in-order c))
 
 part-some-above-start : tie.Need-part-some-above-start
-part-some-above-start c = omega (arith, at-most-four (c .before .before .before .before .before))
+part-some-above-start c = omega (arith, at-most-four (in-order (c .before)))
 
 part-some-above-end : tie.Need-part-some-above-end
 part-some-above-end c =
-    let given = c .before .before .before .before .before .before .before .before .before in
+    let given = start (in-order (c .before) .before) in
     let all : 20 ≤ length (given .args .message .digits) = omega (arith, twenty given) in
     all
 
@@ -62,8 +69,8 @@ some-above-requires-2 c κs = search needs
 returns-2 : tie.Need-returns-2
 returns-2 c =
     let first = c .before .before .before in
-    let tested = first .before .before .before .before in
-    let given = tested .before .before .before .before in
+    let tested = in-order first in
+    let given = start (tested .before) in
     digits-tested (given .args .message) (station given) (tested .if1 .left) (twenty given)
     (first .some-above .ensures)
     (c .some-above2 .ensures)

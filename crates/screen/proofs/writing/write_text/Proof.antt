@@ -12,6 +12,17 @@ use Rattle.text.proofs.Placing.{written-as}
 use Rattle.screen.proofs.writing.write_text.Statement.{statement}
 use Rattle.screen.proofs.writing.write_text.Tie as tie
 
+-- from the station's number and from the list of the tracks back to the start
+abbrev from-number : tie.After-number-text → tie.Start
+from-number c = c .before .before .before .before
+
+abbrev from-list : tie.After-track-texts → tie.Start
+from-list c = from-number (c .before .before .before)
+
+-- from the aspect's place in the row back to the list of the tracks
+abbrev listed : tie.After-aspect → tie.After-track-texts
+listed c = c .before .before .before .before .before
+
 twenty : (c : tie.Start) → length (c .args .message .digits) ≡ 20
 twenty c = search needs
 
@@ -22,7 +33,7 @@ number-text-requires : tie.Need-number-text-requires
 number-text-requires c κs = search needs
 
 aspect-text-requires : tie.Need-aspect-text-requires
-aspect-text-requires c κs = fits-so _ (c .before .before .before .before .pre) .aspect
+aspect-text-requires c κs = fits-so _ (from-number c .pre) .aspect
 
 track-texts-requires : tie.Need-track-texts-requires
 track-texts-requires c κs = search needs
@@ -47,16 +58,16 @@ slice-aggregate-in-a-row-3 c = search needs
 
 array-share-prefix-list : tie.Need-array-share-prefix-list
 array-share-prefix-list c =
-    let list = c .before .before .before .before .before in
-    let given = list .before .before .before .before .before .before .before in
+    let list = listed c in
+    let given = from-list list in
     let message = given .args .message in
     let whole = ap length (list .track-texts .ensures) ∙ four-texts (message .digits) (twenty given) in
     omega (arith, whole, fits-so message (given .pre) .most)
 
 slice-aggregate-in-a-row-4 : tie.Need-slice-aggregate-in-a-row-4
 slice-aggregate-in-a-row-4 c =
-    let list = c .before .before .before .before .before .before in
-    let given = list .before .before .before .before .before .before .before in
+    let list = listed (c .before) in
+    let given = from-list list in
     let message = given .args .message in
     let same = ap (λ (l : List ℕ). length (take (12 * message .tracks) l)) (list .track-texts .ensures) in
     sym (same ∙ shown-length message (given .pre) (twenty given))
@@ -73,10 +84,10 @@ same-length c = search needs
 returns : tie.Need-returns
 returns c =
     let whole = c .before .before in
-    let list = whole .before .before .before .before .before .before .before .before in
+    let list = listed (whole .before .before .before) in
     let aspect = list .before .before in
     let number = aspect .before in
-    let given = number .before .before .before .before in
+    let given = from-number number in
     written-as (given .args .buffer .now)
     (row-spelt (given .args .message) (given .pre) (twenty given)
     (number .number-text .ensures .1)

@@ -8,7 +8,7 @@ use lib.ListN.{drop, length}
 use Rattle.rules_json.specs.Reader.{at, valueSize}
 use Rattle.json.proofs.Bracketed.{Item, Walking, begins, breaks, closes, empty, goes-on, inside, no-item, over}
 use Rattle.json.proofs.Nested.{list-value, no-list}
-use Rattle.json.proofs.Places.{in-text}
+use Rattle.json.proofs.Places.{found-in-text, in-text}
 use Rattle.json.proofs.octets.past_blanks.Reads as past-blanks
 use Rattle.json.proofs.values.list.Reads as list
 use Rattle.json.proofs.values.value_from.Reads as value-from
@@ -27,6 +27,15 @@ abbrev pub left : list-lts.MeasureT-loop
 left text start deep item₀ item = length text - item .place
 
 module _ (t : ℕ) where
+  -- from the first item's octet back to the start, and from an empty list back to that octet
+  abbrev start : list-lts.After-past-blanks (calls t) (list-at t) list.Post Inv left
+      → list-lts.Start (calls t) (list-at t) list.Post Inv left
+  start c = c .before .before .before
+
+  abbrev first : list-lts.After-struct-known2 (calls t) (list-at t) list.Post Inv left
+      → list-lts.After-past-blanks (calls t) (list-at t) list.Post Inv left
+  first c = c .before .before .before
+
   pub returns : list-lts.Need-returns (calls t) (list-at t) list.Post Inv left
   returns c = no-list _ _ _ (c .if1 .taken) (c .before .before .pre .1)
 
@@ -40,32 +49,29 @@ module _ (t : ℕ) where
 
   pub add-result : list-lts.Need-add-result (calls t) (list-at t) list.Post Inv left
   add-result c =
-      let opened = c .before .before .before in
-      let first = opened .past-blanks in
-      omega (
-        arith,
-        in-text (opened .before .before .before .args .text .now) (first .result .place)
-            (λ e. omega (arith, first .ensures .octet, c .before .if2 .taken)),
-      )
+      let text = start (first c) .args .text .now in
+      let found = first c .past-blanks in
+      let within = found-in-text text (found .result .place) (found .ensures .octet) in
+      omega (arith, within (λ e. omega (arith, c .before .if2 .taken)))
 
   pub returns-2 : list-lts.Need-returns-2 (calls t) (list-at t) list.Post Inv left
   returns-2 c =
-      let opened = c .before .before .before in
-      let start = opened .before .before .before in
-      let text = start .args .text .now in
-      let deep = start .args .deep in
-      let whole = list-value text (start .args .at) deep (opened .before .if1 .left) (start .pre .1) in
-      empty 0x5D (valueSize (deep - 1)) text (start .args .at) _ _ _ (opened .past-blanks .ensures .place)
+      let opened = first c in
+      let given = start opened in
+      let text = given .args .text .now in
+      let deep = given .args .deep in
+      let whole = list-value text (given .args .at) deep (opened .before .if1 .left) (given .pre .1) in
+      empty 0x5D (valueSize (deep - 1)) text (given .args .at) _ _ _ (opened .past-blanks .ensures .place)
       (opened .past-blanks .ensures .octet) whole (c .before .if2 .taken)
 
   pub loop-holds : list-lts.Need-loop-holds (calls t) (list-at t) list.Post Inv left
   loop-holds c =
       let opened = c .before .before in
-      let start = opened .before .before .before in
-      let text = start .args .text .now in
-      let deep = start .args .deep in
-      let whole = list-value text (start .args .at) deep (opened .before .if1 .left) (start .pre .1) in (
-        begins 0x5D (valueSize (deep - 1)) text (start .args .at) _ _ _ (opened .past-blanks .ensures .place)
+      let given = start opened in
+      let text = given .args .text .now in
+      let deep = given .args .deep in
+      let whole = list-value text (given .args .at) deep (opened .before .if1 .left) (given .pre .1) in (
+        begins 0x5D (valueSize (deep - 1)) text (given .args .at) _ _ _ (opened .past-blanks .ensures .place)
             (opened .past-blanks .ensures .octet) whole refl (c .if2 .left),
         opened .past-blanks .ensures .octet,
       )
@@ -76,81 +82,99 @@ module _ (t : ℕ) where
   pub value-from-requires : list-lts.Need-value-from-requires (calls t) (list-at t) list.Post Inv left
   value-from-requires c κs = (omega arith, c .before .before .loop .inv .1)
 
+  -- from an item's value back to the loop
+  abbrev turn : list-lts.After-value-from (calls t) (list-at t) list.Post Inv left
+      → list-lts.At-loop (calls t) (list-at t) list.Post Inv left
+  turn c = c .before .before .before
+
   pub returns-3 : list-lts.Need-returns-3 (calls t) (list-at t) list.Post Inv left
   returns-3 c =
       let valued = c .before .before in
-      no-item (valued .before .before .before .loop .inv .0) (sym (c .if4 .taken) ∙ valued .value-from .ensures)
+      no-item (turn valued .loop .inv .0) (sym (c .if4 .taken) ∙ valued .value-from .ensures)
 
   pub past-blanks-requires-2 : list-lts.Need-past-blanks-requires-2 (calls t) (list-at t) list.Post Inv left
   past-blanks-requires-2 c κs = search needs
 
+  -- from the octet behind an item back to its value, to the loop and to the start
+  abbrev valued : list-lts.After-past-blanks2 (calls t) (list-at t) list.Post Inv left
+      → list-lts.After-value-from (calls t) (list-at t) list.Post Inv left
+  valued c = c .before .before .before
+
   abbrev loop : list-lts.After-past-blanks2 (calls t) (list-at t) list.Post Inv left
       → list-lts.At-loop (calls t) (list-at t) list.Post Inv left
-  loop c = c .before .before .before .before .before .before
+  loop c = turn (valued c)
 
   abbrev given : list-lts.After-past-blanks2 (calls t) (list-at t) list.Post Inv left
       → list-lts.Start (calls t) (list-at t) list.Post Inv left
-  given c = loop c .before .before .before .before .before .before
+  given c = start (loop c .before .before .before)
 
   -- there is an octet at the item's place
   tested : (c : list-lts.After-past-blanks2 (calls t) (list-at t) list.Post Inv left)
       → loop c .loop .item .place < length (given c .args .text .now)
-  tested c = c .before .before .before .before .if3 .taken
+  tested c = valued c .before .if3 .taken
 
   pub item : (c : list-lts.After-past-blanks2 (calls t) (list-at t) list.Post Inv left)
       → Item (valueSize (given c .args .deep - 1)) (given c .args .text .now) (loop c .loop .item .place)
       (c .past-blanks2 .result .place) (c .past-blanks2 .result .octet)
   item c =
-      let valued = c .before .before .before in
       record {
-        past = valued .value-from .result;
+        past = valued c .value-from .result;
         some = c .before .if4 .left;
-        size = valued .value-from .ensures;
+        size = valued c .value-from .ensures;
         skips = c .past-blanks2 .ensures .place;
         octet = c .past-blanks2 .ensures .octet;
       }
 
+  -- back to the octet behind an item: from the closing bracket, from any other octet, from behind the comma
+  abbrev closed : list-lts.After-struct-known6 (calls t) (list-at t) list.Post Inv left
+      → list-lts.After-past-blanks2 (calls t) (list-at t) list.Post Inv left
+  closed c = c .before .before .before
+
+  abbrev unclosed : list-lts.Else5 (calls t) (list-at t) list.Post Inv left
+      → list-lts.After-past-blanks2 (calls t) (list-at t) list.Post Inv left
+  unclosed c = c .before .before
+
+  abbrev next : list-lts.After-past-blanks3 (calls t) (list-at t) list.Post Inv left
+      → list-lts.Else5 (calls t) (list-at t) list.Post Inv left
+  next c = c .before .before .before .before
+
   pub add-result-2 : list-lts.Need-add-result-2 (calls t) (list-at t) list.Post Inv left
   add-result-2 c =
-      omega (arith, inside (item (c .before .before .before)) (λ e. omega (arith, c .before .if5 .taken)))
+      omega (arith, inside (item (closed c)) (λ e. omega (arith, c .before .if5 .taken)))
 
   pub returns-4 : list-lts.Need-returns-4 (calls t) (list-at t) list.Post Inv left
   returns-4 c =
-      let turn = c .before .before .before in
-      closes (loop turn .loop .inv .0) (item turn) (c .before .if5 .taken)
+      closes (loop (closed c) .loop .inv .0) (item (closed c)) (c .before .if5 .taken)
 
   pub returns-5 : list-lts.Need-returns-5 (calls t) (list-at t) list.Post Inv left
   returns-5 c =
-      let turn = c .before .before .before .before in
-      breaks (loop turn .loop .inv .0) (item turn) (c .before .before .if5 .left) (c .if6 .taken)
+      let other = c .before .before in
+      breaks (loop (unclosed other) .loop .inv .0) (item (unclosed other)) (other .if5 .left) (c .if6 .taken)
 
   pub add-past-blanks-2 : list-lts.Need-add-past-blanks-2 (calls t) (list-at t) list.Post Inv left
   add-past-blanks-2 c =
-      let turn = c .before .before .before .before .before in
-      omega (arith, given turn .good, inside (item turn) (λ e. omega (arith, c .before .if6 .left)))
+      let read = unclosed (c .before .before .before) in
+      omega (arith, given read .good, inside (item read) (λ e. omega (arith, c .before .if6 .left)))
 
   pub past-blanks-requires-3 : list-lts.Need-past-blanks-requires-3 (calls t) (list-at t) list.Post Inv left
   past-blanks-requires-3 c κs = search needs
-
-  abbrev turn : list-lts.After-past-blanks3 (calls t) (list-at t) list.Post Inv left
-      → list-lts.After-past-blanks2 (calls t) (list-at t) list.Post Inv left
-  turn c = c .before .before .before .before .before .before
 
   pub loop-less : list-lts.Need-loop-less (calls t) (list-at t) list.Post Inv left
   loop-less c =
       omega (
         arith,
-        item (turn c),
+        item (unclosed (next c)),
         c .past-blanks3 .ensures .place,
-        tested (turn c),
+        tested (unclosed (next c)),
       )
 
   pub loop-again : list-lts.Need-loop-again (calls t) (list-at t) list.Post Inv left
-  loop-again c = (
-    goes-on (loop (turn c) .loop .inv .0) (item (turn c)) (c .before .before .before .before .if5 .left) _
-        (c .past-blanks3 .ensures .place) (c .before .before .if6 .left),
-    c .past-blanks3 .ensures .octet,
-  )
+  loop-again c =
+      let read = unclosed (next c) in (
+        goes-on (loop read .loop .inv .0) (item read) (next c .if5 .left) _ (c .past-blanks3 .ensures .place)
+            (c .before .before .if6 .left),
+        c .past-blanks3 .ensures .octet,
+      )
 
   pub returns-6 : list-lts.Need-returns-6 (calls t) (list-at t) list.Post Inv left
   returns-6 c = over (c .before .before .loop .inv .0) (c .if3 .left)
