@@ -12,9 +12,11 @@ const LAYOUT: &str = "degvuurel_layout_1";
 /// The folder of an archive that stands elsewhere.
 const FOLDER: &str = "DEGVUUREL_LIB_DIR";
 
-/// A processor that the archive can be made for: the folder it is made in, the command, and its number in an ELF file.
+/// A processor that the archive can be made for: the folder it is made in, the archive that is made of the same module before it, the
+/// command, and its number in an ELF file.
 struct Processor {
     folder: &'static str,
+    beside: Option<&'static str>,
     command: &'static str,
     number: u16,
 }
@@ -32,10 +34,11 @@ fn target(what: &str) -> String {
 fn processor() -> Processor {
     match (target("OS").as_str(), target("POINTER_WIDTH").as_str(), target("ENDIAN").as_str(), target("ARCH").as_str()) {
         ("linux", "64", "little", "x86_64") => {
-            Processor { folder: "../target/staticlib", command: "rt staticlib export", number: 62 }
+            Processor { folder: "../target/staticlib", beside: None, command: "rt staticlib export", number: 62 }
         }
         ("linux", "64", "little", "aarch64") => {
-            Processor { folder: "../target/staticlib/aarch64", command: "tools/archive-for-arm", number: 183 }
+            let beside = Some("../libexport.a");
+            Processor { folder: "../target/staticlib/aarch64", beside, command: "tools/archive-for-arm", number: 183 }
         }
         _ => wrong(&format!(
             "the proved library is for Linux on x86-64 and on 64-bit Arm, and not for {}",
@@ -49,6 +52,12 @@ fn processor_of(archive: &[u8]) -> Option<u16> {
     let object = archive.windows(4).position(|bytes| bytes == b"\x7fELF")?;
     let number = archive.get(object + 18..object + 20)?;
     Some(u16::from_le_bytes([number[0], number[1]]))
+}
+
+/// Whether an archive was made before another, so that it may be of older sources.
+fn is_older(archive: &Path, than: &Path) -> bool {
+    let made = |file: &Path| fs::metadata(file).and_then(|file| file.modified()).ok();
+    matches!((made(archive), made(than)), (Some(one), Some(other)) if one < other)
 }
 
 /// Whether an archive names this symbol: a whole name, and not the end or the start of a longer one.
@@ -71,7 +80,7 @@ fn folder(made_in: &str) -> PathBuf {
 }
 
 fn main() {
-    let Processor { folder: made_in, command, number } = processor();
+    let Processor { folder: made_in, beside, command, number } = processor();
     let folder = folder(made_in);
     let archive = folder.join("libexport.a");
     println!("cargo:rerun-if-changed={}", archive.display());
@@ -83,6 +92,12 @@ fn main() {
     };
     if processor_of(&bytes) != Some(number) {
         wrong(&format!("{} is not for {}: {make}", archive.display(), target("ARCH")));
+    }
+    if let Some(first) = beside.map(|first| folder.join(first)).filter(|first| first.exists()) {
+        println!("cargo:rerun-if-changed={}", first.display());
+        if is_older(&archive, &first) {
+            wrong(&format!("{} is older than {}: {make}", archive.display(), first.display()));
+        }
     }
     if !names(&bytes, LAYOUT.as_bytes()) {
         wrong(&format!("{} is of another layout than this package, without {LAYOUT}: {make}", archive.display()));
