@@ -28,22 +28,19 @@ abbrev pub aged : ℕ → ℕ → ℕ
 aged zero a = a
 aged (suc n) a = min 65535 (aged n a + 1)
 
+-- an island, of another age
+abbrev pub of-age : Island → ℕ → Island
+of-age i a = record { occupied = i .occupied; leaving = i .leaving; failed = i .failed; age = a }
+
 abbrev pub after : ℕ → Island → Island
-after n i =
-    record {
-      occupied = i .occupied;
-      leaving = i .leaving;
-      failed = i .failed;
-      age = cond (i .occupied) (aged n (i .age)) (i .age);
-    }
+after n i = of-age i (cond (i .occupied) (aged n (i .age)) (i .age))
 
 step : (o : Bool) (m a : ℕ) → cond o (min 65535 (cond o m a + 1)) (cond o m a) ≡ cond o (min 65535 (m + 1)) a
 step true m a = refl
 step false m a = refl
 
 start : (i : Island) → after 0 i ≡ i
-start i = ap (λ (a : ℕ). record { occupied = i .occupied; leaving = i .leaving; failed = i .failed; age = a })
-    (same (i .occupied))
+start i = ap (of-age i) (same (i .occupied))
   where
     same : (o : Bool) → cond o (i .age) (i .age) ≡ i .age
     same true = refl
@@ -53,9 +50,7 @@ pub later-is : (n : ℕ) (i : Island) → later n i ≡ after n i
 unfolding later older
 later-is zero i = sym (start i)
 later-is (suc n) i =
-    ap older (later-is n i)
-    ∙ ap (λ (a : ℕ). record { occupied = i .occupied; leaving = i .leaving; failed = i .failed; age = a })
-    (step (i .occupied) (aged n (i .age)) (i .age))
+    ap older (later-is n i) ∙ ap (of-age i) (step (i .occupied) (aged n (i .age)) (i .age))
 
 aged-some : (n a : ℕ) → aged (suc n) a ≡ min 65535 (a + suc n)
 aged-some zero a = omega arith
@@ -68,24 +63,14 @@ aged-is (suc n) a h = aged-some n a
 
 -- in one step, as the code takes it
 pub later-occupied : (n : ℕ) (i : Island) (a : ℕ) → i .occupied ≡ true → i .age ≤ 65535 → a ≡ min 65535 (i .age + n)
-    → _≡_ {A = Island}
-    (record { occupied = i .occupied; leaving = i .leaving; failed = i .failed; age = a }) (later n i)
-later-occupied n i a o h e =
-    ap (λ (m : ℕ). record { occupied = i .occupied; leaving = i .leaving; failed = i .failed; age = m }) (e
-    ∙ sym (aged-is n (i .age) h) ∙ picked) ∙ sym (later-is n i)
+    → of-age i a ≡ later n i
+later-occupied n i a o h e = ap (of-age i) (e ∙ sym (aged-is n (i .age) h) ∙ picked) ∙ sym (later-is n i)
   where
     picked : aged n (i .age) ≡ cond (i .occupied) (aged n (i .age)) (i .age)
     picked = ap (λ (b : Bool). cond b (aged n (i .age)) (i .age)) (sym o)
 
 pub later-free : (n : ℕ) (i : Island) → i .occupied ≡ false → i ≡ later n i
-later-free n i o =
-    ap (λ (b : Bool). record {
-      occupied = i .occupied;
-      leaving = i .leaving;
-      failed = i .failed;
-      age = cond b (aged n (i .age)) (i .age);
-    }) (sym o)
-    ∙ sym (later-is n i)
+later-free n i o = ap (λ (b : Bool). of-age i (cond b (aged n (i .age)) (i .age))) (sym o) ∙ sym (later-is n i)
 
 -- a timer is reached by an age that has stopped exactly when it would be by one that had not
 pub reach : (n a timer : ℕ) → timer ≤ 65535 → leb timer (aged n a) ≡ leb timer (a + n)
