@@ -1,13 +1,13 @@
 -- `report_of`: a report of the kind that the name says.
 -- Assumes nothing.
-use Prim.Native.Nat.{ℕ}
+use Prim.Native.Nat.{ℕ, _≤_}
 use mathlib.Core.List.{List}
 use mathlib.Core.Path.{_≡_, ap, sym, _∙_}
 use lib.ListN.{getD}
 use native.Mathlib.Omega.{arith}
 use Rattle.plan_lines.specs.Behind.{asByte, asSixteenBits, filledBy}
 use Rattle.plan_lines.proofs.Filled.{filled-other, past}
-use Rattle.rules.specs.OfEachKind.{clock, condition, failed, freed, occupied, restored}
+use Rattle.rules.specs.OfEachKind.{clock, condition, failed, freed, occupied, report, restored}
 use borrow.Author.Needs.{needs}
 use Rattle.plan_lines.proofs.lines.report_of.Statement.{statement}
 use Rattle.plan_lines.proofs.lines.report_of.Tie as tie
@@ -134,17 +134,23 @@ unfolding filledBy
 returns-8 c =
     c .any-report .ensures ∙ by-name (c .before .before) (c .before .match .keys8)
 
-returns-9 : tie.Need-returns-9
-returns-9 c =
-    let q = c .before .before in
-    let rest = c .before .match .rest in
+-- none of the eight names of reports
+beyond : (c : tie.At-match-rest) → 14 ≤ name (c .before)
+beyond c =
+    let q = c .before in
+    let rest = c .match .rest in
     let ten = rest .0 .0 .0 in
     let six = ten .0 .0 .0 .0 in
     let seven-past = past (name q) (start q .pre) (six .1) in
     let nine-past = past (name q) (past (name q) seven-past (ten .0 .0 .0 .1)) (ten .0 .0 .1) in
     let eleven-past = past (name q) (past (name q) nine-past (ten .0 .1)) (ten .1) in
     let all-but-one = past (name q) (past (name q) eleven-past (rest .0 .0 .1)) (rest .0 .1) in
-    c .report .ensures ∙ filled-other (name q) (numbers q) (past (name q) all-but-one (rest .1))
+    past (name q) all-but-one (rest .1)
+
+returns-9 : tie.Need-returns-9
+returns-9 c =
+    let q = c .before .before in
+    _∙_ {b = report 0 0 0 0 0} (c .report .ensures) (filled-other (name q) (numbers q) (beyond (c .before)))
 
 pub report-of-spec : {M : Type 1} → statement M
 report-of-spec =

@@ -38,19 +38,19 @@ shared-slice-read-letter-size c = search needs
 
 letter-size-requires : tie.Need-letter-size-requires Inv-loop μ-loop
 letter-size-requires c κs =
-    let now = c .before .before in
-    letter-of (start now .args .word .now) (now .before .loop .letter) (start now .pre .1) (now .loop-test .taken)
+    let here = c .before .before in
+    letter-of (start here .args .word .now) (here .before .loop .letter) (start here .pre .1) (here .loop-test .taken)
 
 returns : tie.Need-returns Inv-loop μ-loop
 returns c =
-    let now = turn (c .before) in
-    says-other (now .before .loop .inv) (now .loop-test .taken) (c .before .letter-size .ensures) (start now .pre .1)
-    (c .if1 .taken)
+    let here = turn (c .before) in
+    says-other (here .before .loop .inv) (here .loop-test .taken) (c .before .letter-size .ensures)
+    (start here .pre .1) (c .if1 .taken)
 
 loop-again : tie.Need-loop-again Inv-loop μ-loop
 loop-again c =
-    let now = turn (c .before) in
-    says-on (now .before .loop .inv) (now .loop-test .taken) (c .before .letter-size .ensures) (c .if1 .left)
+    let here = turn (c .before) in
+    says-on (here .before .loop .inv) (here .loop-test .taken) (c .before .letter-size .ensures) (c .if1 .left)
 
 add-place : tie.Need-add-place Inv-loop μ-loop
 add-place c = omega (arith, loop-again c .within-head)

@@ -7,7 +7,8 @@ use Rattle.screen.proofs.Given.{in-range, member-bad, member-good, memb
 use Rattle.screen.proofs.reading.gathered.Statement.{statement}
 use Rattle.screen.proofs.reading.gathered.Tie as tie
 
--- from the test that no member is missing back to the start, and from what was read back to that test
+-- from the test that no member is missing back to the start, from the tracks read back to that test, and from the
+-- digits taken back to the tracks
 abbrev start : tie.After-struct-known3 → tie.Start
 start c = c .before .before .before .before
 

@@ -13,7 +13,9 @@ refused-requires : tie.Need-refused-requires
 refused-requires c κs = search needs
 
 returns : tie.Need-returns
-returns c = too-long (c .before .before .before .args .text .now) (c .before .if1 .taken) (c .refused .ensures)
+returns c =
+    let long = c .before in
+    too-long (long .before .before .args .text .now) (long .if1 .taken) (c .refused .ensures)
 
 blanks-requires : tie.Need-blanks-requires
 blanks-requires c κs = search needs

@@ -139,12 +139,10 @@ module _ (t : ℕ) where
   next c = c .before .before .before .before
 
   pub add-result-2 : list-lts.Need-add-result-2 (calls t) (list-at t) list.Post Inv left
-  add-result-2 c =
-      omega (arith, inside (item (closed c)) (λ e. omega (arith, c .before .if5 .taken)))
+  add-result-2 c = omega (arith, inside (item (closed c)) (λ e. omega (arith, c .before .if5 .taken)))
 
   pub returns-4 : list-lts.Need-returns-4 (calls t) (list-at t) list.Post Inv left
-  returns-4 c =
-      closes (loop (closed c) .loop .inv .0) (item (closed c)) (c .before .if5 .taken)
+  returns-4 c = closes (loop (closed c) .loop .inv .0) (item (closed c)) (c .before .if5 .taken)
 
   pub returns-5 : list-lts.Need-returns-5 (calls t) (list-at t) list.Post Inv left
   returns-5 c =

@@ -159,12 +159,10 @@ module _ (t : ℕ) where
   next c = c .before .before .before .before
 
   pub add-result-2 : object-lts.Need-add-result-2 (calls t) (object-at t) object.Post Inv left
-  add-result-2 c =
-      omega (arith, inside (item (closed c)) (λ e. omega (arith, c .before .if6 .taken)))
+  add-result-2 c = omega (arith, inside (item (closed c)) (λ e. omega (arith, c .before .if6 .taken)))
 
   pub returns-5 : object-lts.Need-returns-5 (calls t) (object-at t) object.Post Inv left
-  returns-5 c =
-      closes (loop (closed c) .loop .inv) (item (closed c)) (c .before .if6 .taken)
+  returns-5 c = closes (loop (closed c) .loop .inv) (item (closed c)) (c .before .if6 .taken)
 
   pub returns-6 : object-lts.Need-returns-6 (calls t) (object-at t) object.Post Inv left
   returns-6 c =
