@@ -1,7 +1,8 @@
 //! A bench: a planner's text sets it up, reports are entered as they come, rows are looked at again, and the passenger screens are
 //! told what is shown last.
 
-use degvuurel::{record, Answer, IslandNumber, Message, Recorder, Refusal, Register, Report, TrackNumber};
+use degvuurel::TrackNumber;
+use degvuurel::{record, Answer, Condition, HeadNumber, IslandNumber, Message, Outputs, Recorder, Refusal, Register, Report};
 use std::error::Error;
 
 const PLAN: &[u8] = b"tracks 2\nt1 300\nt2 300\nt3 300\nt4 50\nt5 600\n\nnormalise\n";
@@ -10,12 +11,13 @@ const PLAN: &[u8] = b"tracks 2\nt1 300\nt2 300\nt3 300\nt4 50\nt5 600\n\nnormali
 const STATION: u16 = 7;
 
 /// What the detectors would send.
-fn coming() -> [Report; 5] {
+fn coming() -> [Report; 6] {
     let (first, second) = (TrackNumber(0), TrackNumber(1));
     [
         Report::occupied(first, IslandNumber::ADVANCE_2),
         Report::occupied(first, IslandNumber::ADVANCE_2),
         Report::occupied(second, IslandNumber::ADVANCE_1),
+        Report::head(HeadNumber(1), Condition::BOARD_FAILED),
         Report::free(second, IslandNumber::ADVANCE_1),
         Report::clock(50),
     ]
@@ -29,8 +31,13 @@ fn enter(recorder: &mut Recorder, report: Report) {
         println!("{report} will be refused by {}: {answer}", answer.number());
     }
     assert_eq!(recorder.append(report), answer, "it is answered as it was said to be");
-    let aspect = recorder.station().aspect();
-    println!("row {}: {report}, {aspect}, {}", recorder.count(), aspect.outputs());
+    let [head_0, head_1] = recorder.station().heads().map(by_name);
+    println!("row {}: {report}, {}: {head_0} and {head_1}", recorder.count(), recorder.station().aspect());
+}
+
+/// The lamps and sounders of a head.
+fn by_name(outputs: Outputs) -> String {
+    outputs.names().collect::<Vec<_>>().join(" ")
 }
 
 /// From the last row back to the one before the hold ran out, and forward again. What came later changes no row.

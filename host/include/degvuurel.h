@@ -54,6 +54,34 @@ enum {
     DEGVUUREL_OUT_OF_SERVICE = 5
 };
 
+/* The nine outputs, five lamps and four sounders, joined by |: document 01, "From islands to aspect". */
+enum {
+    DEGVUUREL_VF = 1 << 0,     /* verde fijo: green */
+    DEGVUUREL_VI = 1 << 1,     /* verde intermitente: green, flashing */
+    DEGVUUREL_NI = 1 << 2,     /* naranja intermitente: orange, flashing */
+    DEGVUUREL_RF = 1 << 3,     /* rojo fijo: red */
+    DEGVUUREL_R_PLUS = 1 << 4, /* R+: the board OTRO TREN */
+    DEGVUUREL_S1 = 1 << 5,     /* the sounder of VI */
+    DEGVUUREL_S2 = 1 << 6,     /* the sounder of RF */
+    DEGVUUREL_S3 = 1 << 7,     /* the sounder of R+ */
+    DEGVUUREL_S4 = 1 << 8      /* the sounder of NI */
+};
+
+/* What has failed of a head, its condition, joined by |: document 01, "The heads". */
+enum {
+    DEGVUUREL_GREEN_FAILED = 1 << 0,
+    DEGVUUREL_ORANGE_FAILED = 1 << 1,
+    DEGVUUREL_RED_FAILED = 1 << 2,
+    DEGVUUREL_BOARD_FAILED = 1 << 3, /* OTRO TREN */
+    DEGVUUREL_S1_FAILED = 1 << 4,
+    DEGVUUREL_S2_FAILED = 1 << 5,
+    DEGVUUREL_S3_FAILED = 1 << 6,
+    DEGVUUREL_S4_FAILED = 1 << 7,
+    DEGVUUREL_POWER_FAILED = 1 << 8,
+    DEGVUUREL_COMMUNICATION_FAILED = 1 << 9,
+    DEGVUUREL_EVERY_PART_FAILED = 1023 /* the greatest that a report can have */
+};
+
 /* The kinds of report: document 01, "Reports". */
 enum {
     DEGVUUREL_OCCUPIED = 1,  /* a is the track, b the island */
@@ -322,11 +350,10 @@ struct degvuurel_zones_shown degvuurel_zones(struct degvuurel_station station);
 /* Which tracks count for the greatest risk. */
 struct degvuurel_presence_shown degvuurel_presence(struct degvuurel_station station);
 
-/* The nine output bits of an aspect; a number above 5 gives 0. */
+/* The nine outputs of an aspect, DEGVUUREL_VF to DEGVUUREL_S4; a number above 5 gives 0. */
 uint16_t degvuurel_outputs(uint8_t aspect);
 
-/* What a head in this condition shows of the outputs. Bits 0 to 3 of the condition are green, orange, red, board; 4 to 7 the
- * sounders S1 to S4; 8 power; 9 communication. */
+/* What a head in this condition, DEGVUUREL_GREEN_FAILED to DEGVUUREL_COMMUNICATION_FAILED, shows of the outputs. */
 uint16_t degvuurel_head(uint16_t outputs, uint16_t condition);
 
 /* The advance distance, for a speed of 1 to 350 km/h and the time that the message takes, 0 to 60 s. */

@@ -1,5 +1,5 @@
-/* The library's numbers in words, for whoever shows them to a person: answers, aspects, and what is wrong with a planner's text.
- * The words are those of the command and of the package in Rust. For C99 and later, and C++11 and later; nothing of it is in the
+/* The library's numbers in words, for whoever shows them to a person: answers, aspects, outputs, failed parts of a head, and what is
+ * wrong with a planner's text. The words are those of the command and of the package in Rust. For C99 and later, and C++11 and later; nothing of it is in the
  * archive. */
 #ifndef DEGVUUREL_WORDS_H
 #define DEGVUUREL_WORDS_H
@@ -41,6 +41,20 @@ static inline const char *degvuurel_aspect_words(uint8_t aspect) {
         "permitted", "clearing", "forbidden", "greatest risk", "trains in the surroundings", "out of service",
     };
     return degvuurel_word(words, sizeof words / sizeof words[0], aspect);
+}
+
+/* An output, by its bit, 0 to 8. */
+static inline const char *degvuurel_output_words(uint8_t bit) {
+    static const char *const words[] = {"VF", "VI", "NI", "RF", "R+", "S1", "S2", "S3", "S4"};
+    return degvuurel_word(words, sizeof words / sizeof words[0], bit);
+}
+
+/* A part of a head that can fail, by its bit of the condition, 0 to 9. */
+static inline const char *degvuurel_part_words(uint8_t bit) {
+    static const char *const words[] = {
+        "green", "orange", "red", "board", "S1", "S2", "S3", "S4", "power", "communication",
+    };
+    return degvuurel_word(words, sizeof words / sizeof words[0], bit);
 }
 
 /* What is wrong with a planner's text, 0 to 11. */

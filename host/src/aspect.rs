@@ -1,7 +1,7 @@
-//! What an aspect and a head show.
+//! What the crossing shows.
 
 use crate::answer::NoSuchNumber;
-use crate::declared;
+use crate::structs::Outputs;
 use std::fmt;
 
 /// What the crossing shows: document 01, "From islands to aspect".
@@ -42,9 +42,9 @@ impl Aspect {
     /// Its nine outputs.
     ///
     /// ```
-    /// use degvuurel::Aspect;
+    /// use degvuurel::{Aspect, Outputs};
     ///
-    /// assert_eq!(Aspect::Clearing.outputs().bits(), 34);
+    /// assert_eq!(Aspect::Clearing.outputs(), Outputs::VI | Outputs::S1);
     /// assert_eq!(Aspect::Clearing.outputs().to_string(), "010001000");
     /// ```
     #[must_use]
@@ -82,58 +82,5 @@ impl fmt::Display for Aspect {
             Aspect::Surroundings => "trains in the surroundings",
             Aspect::OutOfService => "out of service",
         })
-    }
-}
-
-/// Nine output bits, bit 0 first: VF, VI, NI, RF, R+, S1, S2, S3, S4. Shown as nine digits, VF first.
-#[derive(Clone, Copy, Debug, PartialEq, Eq, Hash)]
-pub struct Outputs(pub(crate) u16);
-
-impl Outputs {
-    /// The nine outputs of an aspect's number, as an entry of a register holds it; a number above 5 has none.
-    ///
-    /// ```
-    /// use degvuurel::Outputs;
-    ///
-    /// assert_eq!(Outputs::of_aspect(4).bits(), 260);
-    /// assert_eq!(Outputs::of_aspect(6).bits(), 0);
-    /// ```
-    #[must_use]
-    pub fn of_aspect(number: u8) -> Outputs {
-        // SAFETY: any number is taken.
-        Outputs(unsafe { declared::degvuurel_outputs(number) })
-    }
-
-    /// What these bits are; those from bit 9 up are no outputs, and no head shows them.
-    #[must_use]
-    pub fn of(bits: u16) -> Outputs {
-        Outputs(bits)
-    }
-
-    /// The bits.
-    #[must_use]
-    pub fn bits(self) -> u16 {
-        self.0
-    }
-
-    /// What a head in this condition still shows of them: document 01, "The heads".
-    ///
-    /// ```
-    /// use degvuurel::Aspect;
-    ///
-    /// let shown = Aspect::GreatestRisk.outputs();
-    /// assert_eq!(shown.through(8).bits(), 128); // the board has failed: the lamps go out, the sounder is kept
-    /// ```
-    #[must_use]
-    pub fn through(self, condition: u16) -> Outputs {
-        // SAFETY: any numbers are taken.
-        Outputs(unsafe { declared::degvuurel_head(self.0, condition) })
-    }
-}
-
-impl fmt::Display for Outputs {
-    fn fmt(&self, f: &mut fmt::Formatter<'_>) -> fmt::Result {
-        let digits: String = (0..9).map(|bit| if self.0 >> bit & 1 == 1 { '1' } else { '0' }).collect();
-        f.pad(&digits)
     }
 }

@@ -2,7 +2,7 @@
 
 use crate::declared;
 use crate::numbers::{HeadNumber, IslandNumber, TrackNumber};
-use crate::structs::Report;
+use crate::structs::{Condition, Report};
 use std::error::Error;
 use std::fmt;
 
@@ -64,8 +64,8 @@ pub enum Kind {
     Head {
         /// Which head.
         head: HeadNumber,
-        /// Bits 0 to 3 green, orange, red, board; 4 to 7 sounders S1 to S4; 8 power; 9 communication.
-        condition: u16,
+        /// What has failed of it.
+        condition: Condition,
     },
     /// 7: the station is normalised.
     Normalise,
@@ -79,7 +79,7 @@ impl From<Kind> for Report {
             Kind::Clock { ticks } => (CLOCK, 0, 0, ticks),
             Kind::Failed { track, island } => (FAILED, track.0, island.0, 0),
             Kind::Restored { track, island } => (RESTORED, track.0, island.0, 0),
-            Kind::Head { head, condition } => (HEAD, head.0, 0, condition),
+            Kind::Head { head, condition } => (HEAD, head.0, 0, condition.0),
             Kind::Normalise => (NORMALISE, 0, 0, 0),
         };
         Report { kind, a, b, spare: 0, value }
@@ -110,7 +110,7 @@ impl TryFrom<Report> for Kind {
             (CLOCK, 0, 0, 0, ticks) => Kind::Clock { ticks },
             (FAILED, _, _, 0, 0) => Kind::Failed { track, island },
             (RESTORED, _, _, 0, 0) => Kind::Restored { track, island },
-            (HEAD, head, 0, 0, condition) => Kind::Head { head: HeadNumber(head), condition },
+            (HEAD, head, 0, 0, condition) => Kind::Head { head: HeadNumber(head), condition: Condition(condition) },
             (NORMALISE, 0, 0, 0, 0) => Kind::Normalise,
             _ => return Err(NoKind(report)),
         })
@@ -148,9 +148,9 @@ impl Report {
         Kind::Restored { track, island }.into()
     }
 
-    /// A head is in this condition: bits 0 to 3 green, orange, red, board; 4 to 7 sounders S1 to S4; 8 power; 9 communication.
+    /// So much has failed of a head.
     #[must_use]
-    pub fn head(head: HeadNumber, condition: u16) -> Report {
+    pub fn head(head: HeadNumber, condition: Condition) -> Report {
         Kind::Head { head, condition }.into()
     }
 

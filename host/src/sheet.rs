@@ -66,7 +66,7 @@ pub fn title_line(out: &mut [u8]) -> &str {
 /// ```
 /// use degvuurel::{row_line, Aspect, RowFields};
 ///
-/// let fields = RowFields { entry: 2, zones: [1, 1, 1, 1, 0], outputs: Aspect::Clearing.outputs().bits(), answer: 0 };
+/// let fields = RowFields { entry: 2, zones: [1, 1, 1, 1, 0], outputs: Aspect::Clearing.outputs(), answer: 0 };
 /// assert_eq!(row_line(&mut [0; 40], fields), "2 11110 010001000 0\n");
 /// ```
 pub fn row_line(out: &mut [u8], fields: RowFields) -> &str {

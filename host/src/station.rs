@@ -1,9 +1,9 @@
 //! The station: the reports that it takes, and what it shows.
 
 use crate::answer::{Answer, Refusal};
-use crate::aspect::{Aspect, Outputs};
+use crate::aspect::Aspect;
 use crate::declared;
-use crate::structs::{Report, Settings, Station};
+use crate::structs::{Outputs, Report, Settings, Station};
 
 impl Station {
     /// A fresh station of these settings.

@@ -94,8 +94,43 @@ pub struct Station {
     /// Whether the fault is latched.
     pub fault: bool,
     /// What has failed of each head.
-    pub conditions: [u16; 2],
+    pub conditions: [Condition; 2],
 }
+
+/// Which parts of a head have failed, a bit each: document 01, "The heads". The parts have names, which are joined by `|`.
+///
+/// ```
+/// use degvuurel::{Aspect, Condition, HeadNumber, Outputs, Report};
+///
+/// // Where the board has failed the lamps go out and the sounder is kept; where a sounder has failed, that one is silent.
+/// let shown = Aspect::GreatestRisk.outputs();
+/// assert_eq!(shown.through(Condition::BOARD_FAILED), Outputs::S3);
+/// assert_eq!(shown.through(Condition::S3_FAILED), Outputs::RF | Outputs::R_PLUS);
+/// assert_eq!(shown.through(Condition::BOARD_FAILED | Condition::POWER_FAILED), Outputs::NONE);
+///
+/// // In a planner's text it is one number.
+/// let report = Report::head(HeadNumber(0), Condition::BOARD_FAILED | Condition::S1_FAILED);
+/// assert_eq!(report.to_string(), "head 0 24");
+/// ```
+#[derive(Clone, Copy, PartialEq, Eq, Hash, Default)]
+#[repr(transparent)]
+pub struct Condition(pub(crate) u16);
+
+/// Nine output bits, five lamps and four sounders, bit 0 first: VF, VI, NI, RF, R+, S1, S2, S3, S4. They have names, which are
+/// joined by `|`. Shown as nine digits, VF first.
+///
+/// ```
+/// use degvuurel::{Aspect, Outputs};
+///
+/// let shown = Aspect::GreatestRisk.outputs();
+/// assert_eq!(shown, Outputs::RF | Outputs::R_PLUS | Outputs::S3);
+/// assert!(shown.contains(Outputs::RF) && !shown.contains(Outputs::S2));
+/// assert_eq!(shown.names().collect::<Vec<_>>(), ["RF", "R+", "S3"]);
+/// assert_eq!(shown.to_string(), "000110010");
+/// ```
+#[derive(Clone, Copy, PartialEq, Eq, Hash, Default)]
+#[repr(transparent)]
+pub struct Outputs(pub(crate) u16);
 
 /// A report, six bytes of the register: document 01, "Reports". The functions make each kind; any other fields are answered by a
 /// number when the report is taken.
@@ -132,8 +167,8 @@ pub struct RowFields {
     pub entry: u64,
     /// The zone digits in island order.
     pub zones: [u8; 5],
-    /// The nine output bits, VF first.
-    pub outputs: u16,
+    /// The nine outputs.
+    pub outputs: Outputs,
     /// The answer.
     pub answer: u8,
 }

@@ -4,7 +4,7 @@
 mod compiled;
 
 use compiled::{compiled, package, refused, written_by, LANGUAGES};
-use degvuurel::{Answer, Aspect, Fault};
+use degvuurel::{Answer, Aspect, Condition, Fault, Outputs};
 use std::fmt::{Display, Write};
 use std::fs;
 
@@ -79,6 +79,8 @@ fn the_words_are_those_of_the_package() {
     let mut lines = String::new();
     words(&mut lines, "answer", 17, Answer::of);
     words(&mut lines, "aspect", 6, Aspect::of);
+    words(&mut lines, "output", 9, |bit| Outputs::of(1 << bit).names().next());
+    words(&mut lines, "part", 10, |bit| Condition::of(1 << bit).names().next());
     words(&mut lines, "fault", 12, |number| {
         if number == 0 {
             Some("understood".to_string())

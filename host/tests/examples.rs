@@ -11,17 +11,19 @@ entry zones outputs answer
 2 11110 010001000 0
 ";
 
-/// The greatest risk is held for T4, 50 ticks, after the second train has gone back: document 01, C9.
+/// The greatest risk is held for T4, 50 ticks, after the second train has gone back: document 01, C9. A head whose board has failed
+/// keeps its sounder alone: C12.
 const BENCH: &str = r#"row 1 is line 8 of the plan
-row 2: occupied 0 4, clearing, 010001000
+row 2: occupied 0 4, clearing: VI S1 and VI S1
 occupied 0 4 will be refused by 6: occupied, free, failed or not failed already
-row 3: occupied 0 4, clearing, 010001000
-row 4: occupied 1 0, greatest risk, 000110010
-row 5: free 1 0, greatest risk, 000110010
-row 6: clock 50, clearing, 010001000
-back to row 5: greatest risk
-forward to row 6: clearing
-forward again is refused 14: no such row; still at row 6
+row 3: occupied 0 4, clearing: VI S1 and VI S1
+row 4: occupied 1 0, greatest risk: RF R+ S3 and RF R+ S3
+row 5: head 1 8, greatest risk: RF R+ S3 and S3
+row 6: free 1 0, greatest risk: RF R+ S3 and S3
+row 7: clock 50, clearing: VI S1 and S1
+back to row 6: greatest risk
+forward to row 7: clearing
+forward again is refused 14: no such row; still at row 7
 {"station":7,"aspect":1,"tracks":[[1,1,1,1,0],[1,1,1,1,1]]}
 "#;
 

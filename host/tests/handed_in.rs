@@ -3,7 +3,8 @@
 
 include!("archive/declared.rs");
 
-use degvuurel::{HeadNumber, Island, IslandNumber, Message, Report, Seconds, Settings, Station, Track, TrackNumber};
+use degvuurel::{Aspect, Condition, HeadNumber, Island, IslandNumber, Message, Outputs, Report, Seconds, Settings, Station};
+use degvuurel::{Track, TrackNumber};
 
 const WORKED: Settings = Settings { tracks: 2, t1: 300, t2: 300, t3: 300, t4: 0, t5: 600 };
 
@@ -21,6 +22,9 @@ const OUTSIDE: [Settings; 9] = [
 
 const NO_KIND: Report = Report { kind: 8, a: 0, b: 0, spare: 1, value: 0 };
 
+/// A condition's bits from 10 up.
+const NOT_READ: Condition = Condition::of(0xFC00);
+
 /// A report of each kind, with nothing wrong in it.
 fn well_formed() -> [Report; 7] {
     [
@@ -29,7 +33,7 @@ fn well_formed() -> [Report; 7] {
         Report::clock(1),
         Report::failed(TrackNumber(0), IslandNumber(3)),
         Report::restored(TrackNumber(0), IslandNumber(3)),
-        Report::head(HeadNumber(0), 8),
+        Report::head(HeadNumber(0), Condition::BOARD_FAILED),
         Report::normalise(),
     ]
 }
@@ -44,7 +48,8 @@ fn busy(settings: Settings) -> Station {
         age: 1000 + number,
     };
     let track = |track: u16| Track { islands: [0, 1, 2, 3, 4].map(|place| island(5 * track + place)) };
-    Station { settings, tracks: [0, 1, 2, 3].map(track), hold: 77, fault: false, conditions: [0xFC08, 64] }
+    let conditions = [NOT_READ | Condition::BOARD_FAILED, Condition::S3_FAILED];
+    Station { settings, tracks: [0, 1, 2, 3].map(track), hold: 77, fault: false, conditions }
 }
 
 /// The answer to a report that is refused, which is also what asking beforehand says; the station stays.
@@ -63,7 +68,7 @@ fn settings_outside_their_limits() {
         for report in well_formed().into_iter().chain([NO_KIND]) {
             assert_eq!(refused(&station, report), 8, "{settings:?}, {report}");
         }
-        assert_eq!((station.aspect().number(), station.heads().map(|outputs| outputs.bits())), (5, [0, 0]), "{settings:?}");
+        assert_eq!((station.aspect().number(), station.heads()), (5, [Outputs::NONE; 2]), "{settings:?}");
         // What cannot be trusted counts as taken.
         assert_eq!((station.zones(), station.presence()), ([0; 5], [true; 4]), "{settings:?}");
         let told = Message { station: 9, aspect: 5, tracks: 4, digits: [0; 20] };
@@ -79,11 +84,11 @@ fn refused_reports_of_a_busy_station() {
         (NO_KIND, 1),
         (Report::clock(0), 2),
         (Report { spare: 1, ..Report::occupied(TrackNumber(9), IslandNumber(9)) }, 2),
-        (Report::head(HeadNumber(0), 1024), 2),
+        (Report::head(HeadNumber(0), Condition::of(1024)), 2),
         (Report::occupied(TrackNumber(2), IslandNumber(9)), 3),
         (Report::restored(TrackNumber(255), IslandNumber(0)), 3),
         (Report::occupied(TrackNumber(1), IslandNumber(5)), 4),
-        (Report::head(HeadNumber(2), 0), 5),
+        (Report::head(HeadNumber(2), Condition::NONE), 5),
         (Report::occupied(TrackNumber(0), IslandNumber(0)), 6),
         (Report::free(TrackNumber(0), IslandNumber(1)), 6),
         (Report::failed(TrackNumber(1), IslandNumber(0)), 6),
@@ -108,14 +113,15 @@ fn what_is_not_read() {
         station.take(report).expect("nothing is wrong with it");
         assert_eq!(station.tracks[1..], old.tracks[1..], "{report}");
     }
-    // Aspect 1 shows VI and S1, 34; head 0 has its board failed, bit 3, and shows the sounder alone; of head 1, S3 has failed.
-    assert_eq!(station.heads().map(|outputs| outputs.bits()), [32, 34]);
+    // Of head 0 the board has failed, and it shows the sounder alone; of head 1 only S3 has, which this aspect does not sound.
+    assert_eq!(station.aspect(), Aspect::Clearing);
+    assert_eq!(station.heads(), [Outputs::S1, Outputs::VI | Outputs::S1]);
 }
 
 /// Ages stop at 65535, also where they are handed in there, and a hold above T4 falls by one a tick.
 #[test]
 fn the_greatest_ages_and_holds() {
-    let mut station = Station { conditions: [0, 0], ..busy(Settings { t4: 5, ..WORKED }) };
+    let mut station = Station { conditions: [Condition::NONE; 2], ..busy(Settings { t4: 5, ..WORKED }) };
     station.tracks = [Track::default(); 4];
     station.tracks[0].islands[2] = Island { occupied: true, leaving: false, failed: false, age: 65534 };
     station.hold = 65535;

@@ -137,8 +137,9 @@ fn the_numbers_are_those_of_the_rattle_sources() {
     let header = text_of("include/degvuurel.h");
     let numbers = sources::constants_in_source(&text_of("../crates/rules/src/lib.rt"));
     let (words, faults) = words_and_faults();
-    // Seventeen answers, seven kinds, six aspects and three sizes; and of a planner's text sixteen words and twelve faults.
-    assert_eq!((numbers.len(), words.len(), faults.len()), (33, 16, 12));
+    // Seventeen answers, seven kinds, six aspects, nine outputs, ten parts that fail and all of them, and three sizes; and of a
+    // planner's text sixteen words and twelve faults.
+    assert_eq!((numbers.len(), words.len(), faults.len()), (53, 16, 12));
     let words = words.into_iter().map(|(name, number)| (word_in_header(&name), number));
     let others = numbers.into_iter().chain(faults.clone()).map(|(name, number)| (name_in_header(&name).to_string(), number));
     for (name, number) in others.chain(words) {
@@ -158,6 +159,19 @@ fn the_numbers_are_those_of_the_rattle_sources() {
     assert!(header.contains(&format!("DEGVUUREL_MESSAGE {}\n", degvuurel::MESSAGE)));
     assert!(header.contains(&format!("DEGVUUREL_MESSAGE_READ {}\n", degvuurel::MESSAGE_READ)));
     assert!(text_of("../crates/screen/src/reading.rt").contains(&format!("const LONGEST: usize = {};", degvuurel::MESSAGE_READ)));
+}
+
+/// Outputs and failed parts have the same names in Rust, and the same bits.
+#[test]
+fn the_bits_are_those_of_the_rattle_sources() {
+    let rust = texts_of(&["src/outputs.rs", "src/condition.rs"]);
+    let bits = sources::constants_in_source(&text_of("../crates/rules/src/lib.rt")).into_iter();
+    let bits: Vec<_> = bits.filter(|(name, bit)| bit.starts_with("1 << ") || name == "EVERY_PART_FAILED").collect();
+    assert_eq!(bits.len(), 9 + 10 + 1);
+    for (name, bit) in bits {
+        let kind = if name.ends_with("_FAILED") { "Condition" } else { "Outputs" };
+        assert!(rust.contains(&format!("pub const {name}: {kind} = {kind}({bit});")), "{name} is not {bit} in Rust");
+    }
 }
 
 /// The layout that the archive's symbol counts. Where this differs, something that goes through the door has changed: then the

@@ -9,6 +9,7 @@ use rules::CLOCK;
 use rules::DETECTOR_FAILED;
 use rules::DETECTOR_RESTORED;
 use rules::DONE;
+use rules::EVERY_PART_FAILED;
 use rules::HEAD_CONDITION;
 use rules::ISLAND_FREE;
 use rules::ISLAND_OCCUPIED;
@@ -65,7 +66,7 @@ fn wrong_fields(report: Report) -> bool
     let kind = report.kind;
     match kind {
         CLOCK => (report.a != 0) | (report.b != 0) | (report.value == 0),
-        HEAD_CONDITION => (report.b != 0) | (1023 < report.value),
+        HEAD_CONDITION => (report.b != 0) | (EVERY_PART_FAILED < report.value),
         NORMALISE => (report.a != 0) | (report.b != 0) | (report.value != 0),
         _ => names_island(kind) & (report.value != 0),
     }

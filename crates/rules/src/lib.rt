@@ -100,7 +100,57 @@ pub const OUT_OF_SERVICE: u8 = 5;
 // Whether a track counts for the greatest risk.
 pub type TrackPresence = [bool; 4];
 
+// Outputs are nine bits, bit 0 first. Verde fijo: green.
+pub const VF: u16 = 1 << 0;
+
+// Verde intermitente: green, flashing.
+pub const VI: u16 = 1 << 1;
+
+// Naranja intermitente: orange, flashing.
+pub const NI: u16 = 1 << 2;
+
+// Rojo fijo: red.
+pub const RF: u16 = 1 << 3;
+
+// R+: the board OTRO TREN.
+pub const R_PLUS: u16 = 1 << 4;
+
+// The sounders: S1 of VI, S2 of RF, S3 of R+, S4 of NI.
+pub const S1: u16 = 1 << 5;
+
+pub const S2: u16 = 1 << 6;
+
+pub const S3: u16 = 1 << 7;
+
+pub const S4: u16 = 1 << 8;
+
 // ---- "The heads"
+
+// A head condition marks failed parts: bits 0 to 3 green, orange, red, OTRO TREN board.
+pub const GREEN_FAILED: u16 = 1 << 0;
+
+pub const ORANGE_FAILED: u16 = 1 << 1;
+
+pub const RED_FAILED: u16 = 1 << 2;
+
+pub const BOARD_FAILED: u16 = 1 << 3;
+
+// Bits 4 to 7 sounders S1 to S4.
+pub const S1_FAILED: u16 = 1 << 4;
+
+pub const S2_FAILED: u16 = 1 << 5;
+
+pub const S3_FAILED: u16 = 1 << 6;
+
+pub const S4_FAILED: u16 = 1 << 7;
+
+// Bit 8 power; bit 9 communication.
+pub const POWER_FAILED: u16 = 1 << 8;
+
+pub const COMMUNICATION_FAILED: u16 = 1 << 9;
+
+// The greatest condition that a report can have: all ten.
+pub const EVERY_PART_FAILED: u16 = 1023;
 
 // What each head shows: nine output bits.
 pub type HeadOutputs = [u16; 2];

@@ -4,8 +4,17 @@ ghost use mathlib.Core.Path.{_≡_};
 ghost use lib.ListN.{take};
 ghost use Rattle.io.specs.Counts.{Counts};
 ghost use Rattle.rules.specs.Printer.{decimal, lengthWritten, outputText, refusalLine, rowLine, space, title, written, zeroOrOne, zoneText};
+use rules::NI;
 use rules::NOT_REPLAYED;
+use rules::R_PLUS;
+use rules::RF;
 use rules::RowFields;
+use rules::S1;
+use rules::S2;
+use rules::S3;
+use rules::S4;
+use rules::VF;
+use rules::VI;
 use rules::ZoneDigits;
 use text::in_a_row;
 
@@ -87,15 +96,15 @@ pub fn output_column(outputs: u16) -> [u8; 10]
     ensures { λ r. ⌜ r ≡ outputText outputs ++ space ⌝ }
 {
     [
-        digit(outputs % 2 == 1),
-        digit(outputs / 2 % 2 == 1),
-        digit(outputs / 4 % 2 == 1),
-        digit(outputs / 8 % 2 == 1),
-        digit(outputs / 16 % 2 == 1),
-        digit(outputs / 32 % 2 == 1),
-        digit(outputs / 64 % 2 == 1),
-        digit(outputs / 128 % 2 == 1),
-        digit(outputs / 256 % 2 == 1),
+        digit(outputs & VF != 0),
+        digit(outputs & VI != 0),
+        digit(outputs & NI != 0),
+        digit(outputs & RF != 0),
+        digit(outputs & R_PLUS != 0),
+        digit(outputs & S1 != 0),
+        digit(outputs & S2 != 0),
+        digit(outputs & S3 != 0),
+        digit(outputs & S4 != 0),
         b' ',
     ]
 }

@@ -1,4 +1,4 @@
 pub mod Digits
+pub mod Every
 pub mod Paper
 pub mod Shown
-pub mod Table

@@ -1,17 +1,23 @@
--- Document 01's rows of outputs, by computation; and a number above 5 shows nothing, since it lies
--- past the end of the definition's rows.
-use mathlib.Core.Path.{_≡_, refl, ap}
-use mathlib.Core.List.{[], _∷_, map}
-use Prim.Native.Nat.{ℕ, _<_}
-use lib.ListN.{List·getD-eq-default}
-use Rattle.rules.specs.Outputs.{bits, clearing, forbidden, greatestRisk, outOfService}
-use Rattle.rules.specs.Outputs.{outputsOf, permitted, surroundings}
+-- Document 01's sentence on the outputs, over every number; and a number that is none of six is above 5.
+use mathlib.Core.Path.{_≡_, _∙_, refl}
+use mathlib.Core.List.{[], _∷_}
+use Prim.Native.Nat.{ℕ, zero, suc, _≤_, _<_, zero-le}
+use native.Mathlib.Omega.{arith}
+use lib.ListN.{getD, List·getD-eq-default}
+use Rattle.rules.specs.Outputs.{outputsOf}
 
-pub paper-outputs : map outputsOf (0 ∷ 1 ∷ 2 ∷ 3 ∷ 4 ∷ 5 ∷ []) ≡ 1 ∷ 34 ∷ 72 ∷ 152 ∷ 260 ∷ 0 ∷ []
+pub paper-outputs : (aspect : ℕ) → outputsOf aspect ≡ getD (1 ∷ 34 ∷ 72 ∷ 152 ∷ 260 ∷ 0 ∷ []) aspect 0
 unfolding outputsOf
-paper-outputs = refl
+paper-outputs zero = refl
+paper-outputs (suc zero) = refl
+paper-outputs (suc (suc zero)) = refl
+paper-outputs (suc (suc (suc zero))) = refl
+paper-outputs (suc (suc (suc (suc zero)))) = refl
+paper-outputs (suc (suc (suc (suc (suc zero))))) = refl
+paper-outputs (suc (suc (suc (suc (suc (suc aspect)))))) = refl
 
-pub above-five : (a : ℕ) → 5 < a → outputsOf a ≡ 0
-unfolding outputsOf
-above-five a h = ap bits
-    (List·getD-eq-default (permitted ∷ clearing ∷ forbidden ∷ greatestRisk ∷ surroundings ∷ outOfService ∷ []) [] h)
+pub above-five : (aspect : ℕ) → 5 < aspect → outputsOf aspect ≡ 0
+above-five aspect h = paper-outputs aspect ∙ List·getD-eq-default (1 ∷ 34 ∷ 72 ∷ 152 ∷ 260 ∷ 0 ∷ []) 0 h
+
+pub next : {n a : ℕ} → n ≤ a → (a ≡ n → ⊥) → n < a
+next h other = omega arith

@@ -1,22 +1,24 @@
--- A head's outputs, which the definition reads column by column, as the code reads them, field by field. A
--- field is the value of its bits (`field`), and what the code makes of its fields is right at every list of
+-- A head's outputs, which the definition reads column by column, as the code reads them, mask by mask. What a
+-- mask leaves is the value of its bits (`masked`), and what the code makes of them is right at every list of
 -- bits, by a test computed over them all.
 use mathlib.Core.Path.{_≡_, _∙_, refl, sym, ap, ap₂}
 use mathlib.Core.Bool.{Bool, true, false, cond, not, _&&_, _||_, Bool·beq}
 use mathlib.Core.List.{List, [], _∷_, _++_}
-use Prim.Native.Nat.{ℕ, suc, _+_, _-_, _*_, _/_, _%_, _^_, _≤_}
+use Prim.Native.Nat.{ℕ, suc, _+_, _-_, _*_, _/_, _%_, _^_, _≤_, _<_}
+use native.Mathlib.Nat.{add-comm, add-zero, mod-lt}
 use native.Mathlib.Omega.{arith}
-use lib.Bits.{and-le-r, bitAnd}
+use lib.Bits.{and-block, and-le-r, bitAnd, bitOr, or-shifted-r}
 use lib.Count.{ones}
 use lib.Dec.{eqb, ltb}
 use lib.ListN.{take, drop, replicate}
+use lib.Pow.{pow-pos, split}
 use borrow.Author.Tests.{eqb-true, le-ltb, lt-ltb, ltb-false, ltb-true}
 use Rattle.rules.specs.Heads.{bit, communicationFailed, failedSounders, headOutputs}
 use Rattle.rules.specs.Heads.{lampFailed, out, powerFailed, those}
 use Rattle.rules.specs.Outputs.{Column, bits, columns, place}
 use Rattle.rules.specs.Words.{count}
-use Rattle.signal.proofs.Digits.{digits, field, low, value}
-use Rattle.signal.proofs.Table.{atList}
+use Rattle.signal.proofs.Digits.{digits, masked, value}
+use Rattle.signal.proofs.Every.{atList}
 
 -- the columns at which a test holds, weighed one by one
 abbrev weight : (Column → Bool) → List Column → ℕ
@@ -42,28 +44,28 @@ abbrev any : Bool → List Bool → Bool
 any b [] = b
 any b (c ∷ cs) = any (b || c) cs
 
--- What the code makes of two fields: whether the head goes dark, its failed sounders counted and the count tested
--- against t; the lamps lit; the sounders heard.
+-- What the code makes of what its masks leave: whether the head goes dark, its failed sounders counted and the count
+-- tested against t; the lamps lit; the sounders heard.
 abbrev pub dark : ℕ → ℕ → ℕ → Bool
-dark t cut sounders = not (eqb cut 0) || ltb t (ones sounders)
+dark t cut failed = not (eqb cut 0) || ltb t (ones failed)
 
 abbrev pub lit : ℕ → ℕ → ℕ
-lit lamps failed = cond (eqb failed 0) lamps 0
+lit failed on = cond (eqb failed 0) on 0
 
 abbrev pub heard : ℕ → ℕ → ℕ
-heard sounders failed = bitAnd sounders (15 - failed)
+heard failed on = bitAnd on (65535 - failed * 2 % 65536)
 
--- the tests of the three, over both fields' bits, the first field's first
+-- the tests of the three, over the bits under both masks, the first mask's first
 dark-right : List Bool → Bool
-dark-right bs = Bool·beq (dark 1 (value (take 2 bs)) (value (drop 2 bs)))
+dark-right bs = Bool·beq (dark 1 (value (take 2 bs) * 256) (value (drop 2 bs) * 16))
     (any false (take 2 bs) || ltb 1 (count (λ b. b) (drop 2 bs)))
 
 lit-right : List Bool → Bool
 lit-right bs =
-    eqb (lit (value (take 5 bs)) (value (drop 5 bs))) (kept 0 (take 5 bs) (replicate 5 (any false (drop 5 bs))))
+    eqb (lit (value (take 4 bs) * 1) (value (drop 4 bs) * 1)) (kept 0 (drop 4 bs) (replicate 5 (any false (take 4 bs))))
 
 heard-right : List Bool → Bool
-heard-right bs = eqb (heard (value (take 4 bs)) (value (drop 4 bs)) * 32) (kept 5 (take 4 bs) (drop 4 bs))
+heard-right bs = eqb (heard (value (take 4 bs) * 16) (value (drop 4 bs) * 32)) (kept 5 (drop 4 bs) (take 4 bs))
 
 beq-true : (a b : Bool) → Bool·beq a b ≡ true → a ≡ b
 beq-true true true t = refl
@@ -82,37 +84,61 @@ fewer : (b : Bool) (t n : ℕ) → (b || ltb t n) ≡ false → t ≤ 1 → (b |
 fewer true t n e h = e
 fewer false t n e h = le-ltb 1 n (omega (arith, ltb-false))
 
+-- bits above the lamps, whatever is taken of them, are no lamps
+joined : (a b y : ℕ) → a < 2 ^ 5 → bitOr a (bitAnd (b * 2 ^ 5) y) ≡ a + bitAnd (b * 2 ^ 5) y
+joined a b y h =
+    ap (bitOr a) above ∙ or-shifted-r (bitAnd b (y / 2 ^ 5)) 5 a h ∙ add-comm _ a ∙ ap (λ (n : ℕ). a + n) (sym above)
+  where
+    above : bitAnd (b * 2 ^ 5) y ≡ bitAnd b (y / 2 ^ 5) * 2 ^ 5
+    above =
+        ap₂ bitAnd (sym (add-zero (b * 2 ^ 5))) (sym (split y 5))
+        ∙ and-block 5 b (y / 2 ^ 5) 0 (y % 2 ^ 5) (pow-pos 5) (mod-lt y (pow-pos 5)) ∙ add-zero _
+
 module _ (o c : ℕ) where
-  dark-is : dark 1 (c / 256 % 4) (c / 16 % 16) ≡ (powerFailed c || communicationFailed c || ltb 1 (failedSounders c))
+  abbrev pub lamps : ℕ
+  lamps = lit (bitAnd c 15) (bitAnd o 31)
+
+  abbrev pub sounders : ℕ
+  sounders = heard (bitAnd c 240) (bitAnd o 480)
+
+  dark-is :
+      dark 1 (bitAnd c 768) (bitAnd c 240) ≡ (powerFailed c || communicationFailed c || ltb 1 (failedSounders c))
   unfolding dark-right ones
   dark-is =
-      ap₂ (dark 1) (field c 8 2) (field c 4 4) ∙ beq-true _ _ (atList dark-right (digits c 8 2 ++ digits c 4 4) refl)
+      ap₂ (dark 1) (masked c 8 2) (masked c 4 4)
+      ∙ beq-true _ _ (atList dark-right (digits c 8 2 ++ digits c 4 4) refl)
 
-  lit-is : lit (o % 32) (c % 16) ≡ kept 0 (digits o 0 5) (replicate 5 (lampFailed c))
+  lit-is : lamps ≡ kept 0 (digits o 0 5) (replicate 5 (lampFailed c))
   unfolding lit-right
-  lit-is = ap₂ lit (low o 5) (low c 4) ∙ eqb-true _ _ (atList lit-right (digits o 0 5 ++ digits c 0 4) refl)
+  lit-is = ap₂ lit (masked c 0 4) (masked o 0 5) ∙ eqb-true _ _ (atList lit-right (digits c 0 4 ++ digits o 0 5) refl)
 
-  heard-is : heard (o / 32 % 16) (c / 16 % 16) * 32 ≡ kept 5 (digits o 5 4) (digits c 4 4)
+  heard-is : sounders ≡ kept 5 (digits o 5 4) (digits c 4 4)
   unfolding heard-right
   heard-is =
-      ap₂ (λ (a b : ℕ). heard a b * 32) (field o 5 4) (field c 4 4)
-      ∙ eqb-true _ _ (atList heard-right (digits o 5 4 ++ digits c 4 4) refl)
+      ap₂ heard (masked c 4 4) (masked o 5 4) ∙ eqb-true _ _ (atList heard-right (digits c 4 4 ++ digits o 5 4) refl)
 
-  pub heard-small : heard (o / 32 % 16) (c / 16 % 16) ≤ 15
-  heard-small = omega (arith, and-le-r (o / 32 % 16) (15 - c / 16 % 16))
+  lamps-small : lamps < 2 ^ 5
+  lamps-small = go (eqb (bitAnd c 15) 0)
+    where
+      go : (b : Bool) → cond b (bitAnd o 31) 0 < 2 ^ 5
+      go true = omega (arith, and-le-r o 31)
+      go false = omega arith
 
-  shown : headOutputs o c
-      ≡ cond (dark 1 (c / 256 % 4) (c / 16 % 16)) 0 (lit (o % 32) (c % 16) + heard (o / 32 % 16) (c / 16 % 16) * 32)
+  both : bitOr lamps sounders ≡ lamps + sounders
+  both = rw (masked o 5 4) (joined lamps (value (digits o 5 4)) _ lamps-small)
+
+  shown : headOutputs o c ≡ cond (dark 1 (bitAnd c 768) (bitAnd c 240)) 0 (bitOr lamps sounders)
   unfolding headOutputs
   shown =
       ap₂ (λ (t : Bool) (n : ℕ). cond t 0 n) (sym dark-is)
-      (weighed (λ k. bit o (place k) && not (out c k)) columns ∙ apart _ _ _ _ _ _ ∙ sym (ap₂ _+_ lit-is heard-is))
+      (weighed (λ k. bit o (place k) && not (out c k)) columns ∙ apart _ _ _ _ _ _
+      ∙ sym (both ∙ ap₂ _+_ lit-is heard-is))
 
   -- a count tested against 1 or more darkens no head that is to show, and one tested against 1 or
   -- less shows no head that is to be dark
-  pub dark-shows : (t : ℕ) → dark t (c / 256 % 4) (c / 16 % 16) ≡ true → 1 ≤ t → headOutputs o c ≡ 0
-  dark-shows t e h = rw (shown, more (not (eqb (c / 256 % 4) 0)) t (ones (c / 16 % 16)) e h)
+  pub dark-shows : (t : ℕ) → dark t (bitAnd c 768) (bitAnd c 240) ≡ true → 1 ≤ t → headOutputs o c ≡ 0
+  dark-shows t e h = rw (shown, more (not (eqb (bitAnd c 768) 0)) t (ones (bitAnd c 240)) e h)
 
-  pub lit-shows : (t : ℕ) → dark t (c / 256 % 4) (c / 16 % 16) ≡ false → t ≤ 1
-      → headOutputs o c ≡ lit (o % 32) (c % 16) + heard (o / 32 % 16) (c / 16 % 16) * 32
-  lit-shows t e h = rw (shown, fewer (not (eqb (c / 256 % 4) 0)) t (ones (c / 16 % 16)) e h)
+  pub lit-shows : (t : ℕ) → dark t (bitAnd c 768) (bitAnd c 240) ≡ false → t ≤ 1
+      → headOutputs o c ≡ bitOr lamps sounders
+  lit-shows t e h = rw (shown, fewer (not (eqb (bitAnd c 768) 0)) t (ones (bitAnd c 240)) e h)

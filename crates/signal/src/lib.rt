@@ -2,29 +2,75 @@
 ghost use mathlib.Core.Path.{_≡_};
 ghost use Rattle.rules.specs.Heads.{headOutputs};
 ghost use Rattle.rules.specs.Outputs.{outputsOf};
+use rules::BOARD_FAILED;
+use rules::CLEARING;
+use rules::COMMUNICATION_FAILED;
+use rules::FORBIDDEN;
+use rules::GREATEST_RISK;
+use rules::GREEN_FAILED;
+use rules::NI;
+use rules::ORANGE_FAILED;
+use rules::OUT_OF_SERVICE;
+use rules::PERMITTED;
+use rules::POWER_FAILED;
+use rules::R_PLUS;
+use rules::RED_FAILED;
+use rules::RF;
+use rules::S1;
+use rules::S1_FAILED;
+use rules::S2;
+use rules::S2_FAILED;
+use rules::S3;
+use rules::S3_FAILED;
+use rules::S4;
+use rules::S4_FAILED;
+use rules::SURROUNDINGS;
+use rules::VF;
+use rules::VI;
 
-// Bit 0 first: VF, VI, NI, RF, R+, S1, S2, S3, S4.
-const OUTPUTS: [u16; 6] = [1, 34, 72, 152, 260, 0];
+// The outputs that a head shows, and the parts that fail, each in two groups; cut off, a head shows nothing.
+const LAMPS: u16 = VF | VI | NI | RF | R_PLUS;
+
+const SOUNDERS: u16 = S1 | S2 | S3 | S4;
+
+const LAMP_FAILED: u16 = GREEN_FAILED | ORANGE_FAILED | RED_FAILED | BOARD_FAILED;
+
+const SOUNDER_FAILED: u16 = S1_FAILED | S2_FAILED | S3_FAILED | S4_FAILED;
+
+const CUT_OFF: u16 = POWER_FAILED | COMMUNICATION_FAILED;
 
 // The nine output bits of an aspect; a number above 5 gives 0.
 pub fn outputs(aspect: u8) -> u16
     ensures { λ r. ⌜ r ≡ outputsOf aspect ⌝ }
 {
-    let row = aspect as usize;
-    if row < 6 { OUTPUTS[row] } else { 0 }
+    match aspect {
+        PERMITTED => VF,
+        CLEARING => VI | S1,
+        FORBIDDEN => RF | S2,
+        GREATEST_RISK => RF | R_PLUS | S3,
+        SURROUNDINGS => NI | S4,
+        OUT_OF_SERVICE => 0,
+        _ => 0,
+    }
 }
 
 // What a head in this condition shows of the outputs.
 pub fn head(outputs: u16, condition: u16) -> u16
     ensures { λ r. ⌜ r ≡ headOutputs outputs condition ⌝ }
 {
-    let sounders = condition / 16 % 16;
-    let silent = condition / 256 % 4 != 0;
-    let many = 1 < u16::count_ones(sounders);
-    if silent | many {
+    let cut_off = condition & CUT_OFF != 0;
+    let failed = condition & SOUNDER_FAILED;
+    let many = 1 < u16::count_ones(failed);
+    if cut_off | many {
         return 0;
     }
-    let heard = outputs / 32 % 16 & 15 - sounders;
-    let lit = if condition % 16 == 0 { outputs % 32 } else { 0 };
-    lit + heard * 32
+    let lit = if condition & LAMP_FAILED == 0 {
+        outputs & LAMPS
+    } else {
+        0
+    };
+    // A sounder's output stands one bit above the bit that marks it failed.
+    let silent = failed << 1;
+    let heard = outputs & SOUNDERS & !silent;
+    lit | heard
 }

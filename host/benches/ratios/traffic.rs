@@ -1,7 +1,7 @@
 //! The inputs of the benches.
 
 use crate::paper;
-use degvuurel::{HeadNumber, IslandNumber, Recorder, Report, Settings, Station, TrackNumber};
+use degvuurel::{Condition, HeadNumber, IslandNumber, Recorder, Report, Settings, Station, TrackNumber};
 use std::fmt;
 
 pub const SETTINGS: Settings = Settings { tracks: 4, t1: 300, t2: 300, t3: 300, t4: 50, t5: 60000 };
@@ -93,9 +93,9 @@ pub fn trains(tracks: u8, longest: u16, count: usize) -> Vec<Report> {
 /// Trains, with a head's condition, a detector that fails and is restored, and a normalise that is refused, among them.
 pub fn everything(count: usize) -> Vec<Report> {
     let others = [
-        Report::head(HeadNumber(1), 8),
+        Report::head(HeadNumber(1), Condition::BOARD_FAILED),
         Report::failed(TrackNumber(3), IslandNumber(1)),
-        Report::head(HeadNumber(1), 0),
+        Report::head(HeadNumber(1), Condition::NONE),
         Report::restored(TrackNumber(3), IslandNumber(1)),
         Report::normalise(),
     ];

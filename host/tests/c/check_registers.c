@@ -95,7 +95,7 @@ static void check_sheets(void) {
     struct degvuurel_row_fields fields;
     fields.entry = 8190;
     memcpy(fields.zones, "\1\0\1\1\0", sizeof fields.zones);
-    fields.outputs = 34;
+    fields.outputs = DEGVUUREL_VI | DEGVUUREL_S1;
     fields.answer = 13;
     SAME_TEXT(text, degvuurel_print(bytes, FILLED, text), SHEET);
     SAME_TEXT(text, degvuurel_title_line(text, sizeof text), "entry zones outputs answer\n");

@@ -7,6 +7,34 @@ static struct degvuurel_settings with_hold(uint16_t t4) { return settings_of(2, 
 /* The outputs of the aspect, as the rows have them. */
 static uint16_t shown(struct degvuurel_station station) { return degvuurel_outputs(degvuurel_aspect(station)); }
 
+/* "Outputs are nine bits, bit 0 first: VF, VI, NI, RF, R+, S1, S2, S3, S4." */
+static void check_names_of_outputs(void) {
+    SAME(DEGVUUREL_VF, 1);
+    SAME(DEGVUUREL_VI, 2);
+    SAME(DEGVUUREL_NI, 4);
+    SAME(DEGVUUREL_RF, 8);
+    SAME(DEGVUUREL_R_PLUS, 16);
+    SAME(DEGVUUREL_S1, 32);
+    SAME(DEGVUUREL_S2, 64);
+    SAME(DEGVUUREL_S3, 128);
+    SAME(DEGVUUREL_S4, 256);
+}
+
+/* "Bits 0 to 3 green, orange, red, OTRO TREN board; bits 4 to 7 sounders S1 to S4; bit 8 power; bit 9 communication." */
+static void check_names_of_failed_parts(void) {
+    SAME(DEGVUUREL_GREEN_FAILED, 1);
+    SAME(DEGVUUREL_ORANGE_FAILED, 2);
+    SAME(DEGVUUREL_RED_FAILED, 4);
+    SAME(DEGVUUREL_BOARD_FAILED, 8);
+    SAME(DEGVUUREL_S1_FAILED, 16);
+    SAME(DEGVUUREL_S2_FAILED, 32);
+    SAME(DEGVUUREL_S3_FAILED, 64);
+    SAME(DEGVUUREL_S4_FAILED, 128);
+    SAME(DEGVUUREL_POWER_FAILED, 256);
+    SAME(DEGVUUREL_COMMUNICATION_FAILED, 512);
+    SAME(DEGVUUREL_EVERY_PART_FAILED, 1023);
+}
+
 static void check_outputs(void) {
     SAME(degvuurel_outputs(DEGVUUREL_PERMITTED), 1);
     SAME(degvuurel_outputs(DEGVUUREL_CLEARING), 34);
@@ -87,6 +115,8 @@ static void check_timers(void) {
 }
 
 void check_stations(void) {
+    check_names_of_outputs();
+    check_names_of_failed_parts();
     check_outputs();
     check_siting();
     check_trains();

@@ -80,14 +80,14 @@ static void check_other_fields(void) {
     expected.hold = settings().t4;
     SAME_STATION(station, expected);
     SAME(degvuurel_aspect(station), DEGVUUREL_GREATEST_RISK);
-    station = AFTER(station, DEGVUUREL_HEAD, 0, 0, 8);
-    expected.conditions[0] = 8;
+    station = AFTER(station, DEGVUUREL_HEAD, 0, 0, DEGVUUREL_BOARD_FAILED);
+    expected.conditions[0] = DEGVUUREL_BOARD_FAILED;
     SAME_STATION(station, expected);
-    station = AFTER(station, DEGVUUREL_HEAD, 1, 0, 64);
-    expected.conditions[1] = 64;
+    station = AFTER(station, DEGVUUREL_HEAD, 1, 0, DEGVUUREL_S3_FAILED);
+    expected.conditions[1] = DEGVUUREL_S3_FAILED;
     SAME_STATION(station, expected);
-    SAME(degvuurel_heads(station).outputs[0], 128);
-    SAME(degvuurel_heads(station).outputs[1], 24);
+    SAME(degvuurel_heads(station).outputs[0], DEGVUUREL_S3);
+    SAME(degvuurel_heads(station).outputs[1], DEGVUUREL_RF | DEGVUUREL_R_PLUS);
 }
 
 /* Settings refused give a fresh station of the least ones. */

@@ -71,10 +71,15 @@ fn source_words(source: &str) -> String {
     source.lines().map(|line| line.split("//").next().unwrap_or("")).collect::<Vec<_>>().join("\n")
 }
 
-/// The type behind a name that a source gives to an array.
+/// The type behind a name that a source gives to an array, or to a number that is laid out as it is without the name.
 fn without_alias(words: &str, kind: &str) -> String {
     let alias = words.split_once(&format!("pub type {kind} = "));
-    alias.and_then(|(_, rest)| rest.split_once(";\n")).map_or(kind, |(array, _)| array).to_string()
+    let array = alias.and_then(|(_, rest)| rest.split_once(";\n")).map_or(kind, |(array, _)| array);
+    let named = words.split("#[repr(transparent)]\npub struct ").skip(1).filter_map(|part| part.split_once(");"));
+    named.filter_map(|(declared, _)| declared.split_once('(')).fold(array.to_string(), |kind, (name, number)| {
+        let number = number.split_whitespace().last().unwrap_or(number);
+        kind.replace(name, number)
+    })
 }
 
 /// The structs of a source that have C's layout. The one field of a tuple is called `number`.

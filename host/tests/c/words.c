@@ -11,6 +11,12 @@ int main(void) {
     for (number = 0; number <= 6; number++) {
         printf("aspect %d: %s\n", number, degvuurel_aspect_words(number));
     }
+    for (number = 0; number <= 9; number++) {
+        printf("output %d: %s\n", number, degvuurel_output_words(number));
+    }
+    for (number = 0; number <= 10; number++) {
+        printf("part %d: %s\n", number, degvuurel_part_words(number));
+    }
     for (number = 0; number <= 12; number++) {
         printf("fault %d: %s\n", number, degvuurel_fault_words(number));
     }

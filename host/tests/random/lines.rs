@@ -2,7 +2,7 @@
 
 use crate::paper;
 use crate::values::{self, report_of, same, same_bytes};
-use degvuurel::{refusal_line, row_line, title_line, RowFields, ENTRY, HEADER, MOST};
+use degvuurel::{refusal_line, row_line, title_line, Outputs, RowFields, ENTRY, HEADER, MOST};
 
 /// What the bytes lent hold before. No sheet has this byte.
 const UNTOUCHED: u8 = 0xEE;
@@ -18,7 +18,7 @@ pub fn of_sheet(bytes: &[u8], expected: &[u8]) -> Result<(), String> {
     for (place, entry) in bytes[HEADER..].chunks(ENTRY).enumerate() {
         let answer = station.take(values::report(report_of(entry)));
         let outputs = paper::outputs(station.aspect());
-        let fields = RowFields { entry: place as u64 + 1, zones: station.zones(), outputs, answer };
+        let fields = RowFields { entry: place as u64 + 1, zones: station.zones(), outputs: Outputs::of(outputs), answer };
         written(lines.next().unwrap_or_default(), |out| row_line(out, fields).len())?;
     }
     Ok(())

@@ -1,7 +1,7 @@
 //! Reports by chance, without regard to trains.
 
 use crate::chance::Chance;
-use degvuurel::{HeadNumber, IslandNumber, Report, Settings, TrackNumber};
+use degvuurel::{Condition, HeadNumber, IslandNumber, Report, Settings, TrackNumber};
 
 /// The clock goes on, mostly for about as long as something takes, so far as the ticks left allow.
 pub fn clock(chance: &mut Chance, settings: Settings, ticks_left: &mut u32) -> Report {
@@ -21,13 +21,13 @@ pub fn clock(chance: &mut Chance, settings: Settings, ticks_left: &mut u32) -> R
 }
 
 /// What has failed of a head: nothing, one part, two, or anything.
-pub fn condition(chance: &mut Chance) -> u16 {
-    match chance.below(4) {
+pub fn condition(chance: &mut Chance) -> Condition {
+    Condition::of(match chance.below(4) {
         0 => 0,
         1 => 1 << chance.below(10),
         2 => 1 << chance.below(10) | 1 << chance.below(10),
         _ => chance.between(0, 1023),
-    }
+    })
 }
 
 /// A report whose fields are as its kind has them.

@@ -4,7 +4,8 @@ use crate::filling::shown_by_both;
 use crate::paper;
 use crate::tally::{Asked, Tally};
 use crate::values::{answer, same};
-use degvuurel::{advance, warning, Aspect, IslandNumber, Metres, Outputs, Report, Seconds, Settings, Station, TrackNumber};
+use degvuurel::TrackNumber;
+use degvuurel::{advance, warning, Aspect, Condition, IslandNumber, Metres, Outputs, Report, Seconds, Settings, Station};
 
 const SETTINGS: Settings = Settings { tracks: 2, t1: 3, t2: 3, t3: 3, t4: 0, t5: 9 };
 
@@ -21,24 +22,24 @@ pub fn heads(tally: &mut Tally) -> Result<(), String> {
         same(format_args!("outputs of {aspect}"), &outputs.bits(), &paper::outputs(aspect.number()))?;
         // The bits from 10 up are not read, so every number of 16 bits is tried and not the 1,024 alone.
         for condition in 0..=u16::MAX {
-            through(outputs, condition)?;
+            through(outputs, Condition::of(condition))?;
         }
     }
     for outputs in 0..512 {
         for condition in 0..1024 {
-            through(Outputs::of(outputs), condition)?;
+            through(Outputs::of(outputs), Condition::of(condition))?;
         }
     }
     for outputs in 512..=u16::MAX {
         for condition in [0, 1, 8, 16, 24, 48, 64, 128, 256, 512, 1023, 1024, u16::MAX] {
-            through(Outputs::of(outputs), condition)?;
+            through(Outputs::of(outputs), Condition::of(condition))?;
         }
     }
     heads_of_stations(tally)
 }
 
-fn through(outputs: Outputs, condition: u16) -> Result<(), String> {
-    let expected = paper::head(outputs.bits(), condition);
+fn through(outputs: Outputs, condition: Condition) -> Result<(), String> {
+    let expected = paper::head(outputs.bits(), condition.bits());
     same(format_args!("head of {outputs} in condition {condition}"), &outputs.through(condition).bits(), &expected)
 }
 
@@ -52,9 +53,9 @@ fn heads_of_stations(tally: &mut Tally) -> Result<(), String> {
         same(format_args!("the aspect to try"), &station.aspect(), &aspect)?;
         for condition in 0..1024 {
             for other in [0, 1, 64, 256, 1023 - condition] {
-                station.conditions = [condition, other];
+                station.conditions = [condition, other].map(Condition::of);
                 shown_by_both(&station, tally)?;
-                station.conditions = [other, condition];
+                station.conditions = [other, condition].map(Condition::of);
                 shown_by_both(&station, tally)?;
             }
         }

@@ -7,7 +7,7 @@ use crate::runs::{guarded, Bench, Found};
 use crate::settings::{any, outside, Timers};
 use crate::shrink::fewest_reports;
 use crate::values::seen;
-use degvuurel::{Island, Report, Settings, Station, Track, ENTRY, HEADER};
+use degvuurel::{Condition, Island, Report, Settings, Station, Track, ENTRY, HEADER};
 
 /// The most reports that a station takes.
 const REPORTS: usize = 4;
@@ -66,7 +66,13 @@ pub fn station(settings: Settings, chance: &mut Chance) -> Station {
         2 => chance.between(0, 12),
         _ => chance.word(),
     };
-    Station { settings, tracks, hold, fault: chance.one_in(3), conditions: [chance.word(), chance.between(0, 1023)] }
+    Station {
+        settings,
+        tracks,
+        hold,
+        fault: chance.one_in(3),
+        conditions: [chance.word(), chance.between(0, 1023)].map(Condition::of),
+    }
 }
 
 /// Both sides agree, or these are the plainest station and the fewest reports found on which they do not.
@@ -117,7 +123,7 @@ fn plainest(station: Station, differs: &mut dyn FnMut(&Station) -> bool) -> Stat
         }
     };
     plainer(&|station| station.hold = 0);
-    plainer(&|station| station.conditions = [0, 0]);
+    plainer(&|station| station.conditions = [Condition::NONE; 2]);
     plainer(&|station| station.fault = false);
     for (track, island) in (0..4).flat_map(|track| (0..5).map(move |island| (track, island))) {
         plainer(&|station| station.tracks[track].islands[island] = Island::default());

@@ -2,7 +2,7 @@
 
 use crate::paper;
 use crate::words::Seen;
-use degvuurel::{Island, Reading, Refusal, Report, Settings, Station};
+use degvuurel::{Condition, Island, Reading, Refusal, Report, Settings, Station};
 use std::fmt;
 
 pub fn settings(settings: Settings) -> paper::Settings {
@@ -26,7 +26,7 @@ pub fn station(station: &Station) -> paper::Station {
         tracks: station.tracks.map(|track| track.islands.map(island)),
         hold: station.hold,
         fault: station.fault,
-        conditions: station.conditions,
+        conditions: station.conditions.map(Condition::bits),
     }
 }
 

@@ -1,7 +1,7 @@
 //! What is printed of bytes that cannot be read, and lines of any fields.
 
 use super::{changed, Change};
-use degvuurel::{print, refusal_line, row_line, RowFields, SHEET};
+use degvuurel::{print, refusal_line, row_line, Outputs, RowFields, SHEET};
 
 #[test]
 fn one_line_of_what_cannot_be_read() {
@@ -30,9 +30,9 @@ fn one_line_of_what_cannot_be_read() {
 #[test]
 fn lines_of_any_fields() {
     let table = [
-        (8190, [0, 1, 0, 0, 1], 11, 14, "8190 01001 110100000 14\n"),
-        (0, [2, 255, 1, 0, 0], 512, 255, "0 11100 000000000 255\n"),
-        (u64::MAX, [0; 5], 511, 10, "18446744073709551615 00000 111111111 10\n"),
+        (8190, [0, 1, 0, 0, 1], Outputs::VF | Outputs::VI | Outputs::RF, 14, "8190 01001 110100000 14\n"),
+        (0, [2, 255, 1, 0, 0], Outputs::of(512), 255, "0 11100 000000000 255\n"),
+        (u64::MAX, [0; 5], Outputs::of(511), 10, "18446744073709551615 00000 111111111 10\n"),
     ];
     for (entry, zones, outputs, answer, line) in table {
         assert_eq!(row_line(&mut [9; 64], RowFields { entry, zones, outputs, answer }), line);

@@ -1,12 +1,15 @@
 -- `output_column`: a digit for each of the nine output bits.
 -- Assumes nothing.
-use mathlib.Core.Path.{_∙_, ap, sym}
+use mathlib.Core.Path.{_≡_, _∙_, ap}
+use mathlib.Core.Bool.{not}
 use mathlib.Core.List.{[], _∷_}
-use Prim.Native.Nat.{_%_}
-use native.Mathlib.Nat.{div-one}
+use Prim.Native.Nat.{ℕ, _+_, _-_, _^_}
+use lib.Bits.{bitAnd}
 use lib.Dec.{eqb}
 use borrow.Author.Needs.{needs}
+use Rattle.rules.specs.Heads.{bit}
 use Rattle.rules.specs.Printer.{zeroOrOne}
+use Rattle.signal.proofs.Digits.{set}
 use Rattle.sheet.proofs.lines.output_column.Statement.{statement}
 use Rattle.sheet.proofs.lines.output_column.Tie as tie
 
@@ -37,6 +40,11 @@ digit-requires-8 c κs = search needs
 digit-requires-9 : tie.Need-digit-requires-9
 digit-requires-9 c κs = search needs
 
+-- the digit of a column, whose bit stands at place k
+column : (o k : ℕ) {digit : ℕ} → digit ≡ zeroOrOne (not (eqb (bitAnd o (2 ^ (1 + k) - 2 ^ k)) 0))
+    → digit ≡ zeroOrOne (bit o k)
+column o k e = e ∙ ap zeroOrOne (set o k)
+
 returns : tie.Need-returns
 returns c =
     let eighth = c .before in
@@ -47,11 +55,12 @@ returns c =
     let third = fourth .before in
     let second = third .before in
     let first = second .before in
-    let low = ap (λ x. zeroOrOne (eqb (x % 2) 1)) (sym (div-one (first .before .args .outputs))) in
-    λ i. (first .digit .ensures ∙ low) i ∷ second .digit2 .ensures i ∷ third .digit3 .ensures i
-    ∷ fourth .digit4 .ensures i
-    ∷ fifth .digit5 .ensures i ∷ sixth .digit6 .ensures i ∷ seventh .digit7 .ensures i ∷ eighth .digit8 .ensures i
-    ∷ c .digit9 .ensures i ∷ 32 ∷ []
+    let o = first .before .args .outputs in
+    λ i. column o 0 (first .digit .ensures) i ∷ column o 1 (second .digit2 .ensures) i
+    ∷ column o 2 (third .digit3 .ensures) i ∷ column o 3 (fourth .digit4 .ensures) i
+    ∷ column o 4 (fifth .digit5 .ensures) i ∷ column o 5 (sixth .digit6 .ensures) i
+    ∷ column o 6 (seventh .digit7 .ensures) i ∷ column o 7 (eighth .digit8 .ensures) i
+    ∷ column o 8 (c .digit9 .ensures) i ∷ 32 ∷ []
 
 pub output-column-spec : {M : Type 1} → statement M
 output-column-spec =

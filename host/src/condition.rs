@@ -1,0 +1,78 @@
+//! What has failed of a head, by name.
+
+use crate::named::{named, write_named};
+use crate::structs::Condition;
+use std::fmt;
+use std::ops::BitOr;
+
+impl Condition {
+    /// Nothing has failed.
+    pub const NONE: Condition = Condition(0);
+    /// The green lamp.
+    pub const GREEN_FAILED: Condition = Condition(1 << 0);
+    /// The orange lamp.
+    pub const ORANGE_FAILED: Condition = Condition(1 << 1);
+    /// The red lamp.
+    pub const RED_FAILED: Condition = Condition(1 << 2);
+    /// The board OTRO TREN.
+    pub const BOARD_FAILED: Condition = Condition(1 << 3);
+    /// Sounder S1.
+    pub const S1_FAILED: Condition = Condition(1 << 4);
+    /// Sounder S2.
+    pub const S2_FAILED: Condition = Condition(1 << 5);
+    /// Sounder S3.
+    pub const S3_FAILED: Condition = Condition(1 << 6);
+    /// Sounder S4.
+    pub const S4_FAILED: Condition = Condition(1 << 7);
+    /// The power.
+    pub const POWER_FAILED: Condition = Condition(1 << 8);
+    /// The communication.
+    pub const COMMUNICATION_FAILED: Condition = Condition(1 << 9);
+    /// All of them: the greatest condition that a report can have.
+    pub const EVERY_PART_FAILED: Condition = Condition(1023);
+
+    /// What these bits are; a report with bits from 10 up is refused by 2, and a head reads none of them.
+    #[must_use]
+    pub const fn of(bits: u16) -> Condition {
+        Condition(bits)
+    }
+
+    /// The bits.
+    #[must_use]
+    pub const fn bits(self) -> u16 {
+        self.0
+    }
+
+    /// Whether all of these are among them.
+    #[must_use]
+    pub const fn contains(self, all: Condition) -> bool {
+        self.0 & all.0 == all.0
+    }
+
+    /// The names of the failed parts, bit 0 first, as document 01 has them.
+    pub fn names(self) -> impl Iterator<Item = &'static str> {
+        named(self.0, &["green", "orange", "red", "board", "S1", "S2", "S3", "S4", "power", "communication"])
+    }
+}
+
+impl BitOr for Condition {
+    type Output = Condition;
+
+    fn bitor(self, other: Condition) -> Condition {
+        Condition(self.0 | other.0)
+    }
+}
+
+/// One number, as a planner types it.
+impl fmt::Display for Condition {
+    fn fmt(&self, f: &mut fmt::Formatter<'_>) -> fmt::Result {
+        self.0.fmt(f)
+    }
+}
+
+/// `Condition(24: board, S1)`.
+impl fmt::Debug for Condition {
+    fn fmt(&self, f: &mut fmt::Formatter<'_>) -> fmt::Result {
+        write_named(f, "Condition", self.0, self.names())
+    }
+}
