@@ -56,10 +56,10 @@ enum {
 
 /* The nine outputs, five lamps and four sounders, joined by |: document 01, "From islands to aspect". */
 enum {
-    DEGVUUREL_VF = 1 << 0,     /* verde fijo: green */
+    DEGVUUREL_VF = 1 << 0,     /* verde fijo: green, steady */
     DEGVUUREL_VI = 1 << 1,     /* verde intermitente: green, flashing */
     DEGVUUREL_NI = 1 << 2,     /* naranja intermitente: orange, flashing */
-    DEGVUUREL_RF = 1 << 3,     /* rojo fijo: red */
+    DEGVUUREL_RF = 1 << 3,     /* rojo fijo: red, steady */
     DEGVUUREL_R_PLUS = 1 << 4, /* R+: the board OTRO TREN */
     DEGVUUREL_S1 = 1 << 5,     /* the sounder of VI */
     DEGVUUREL_S2 = 1 << 6,     /* the sounder of RF */

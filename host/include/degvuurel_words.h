@@ -1,6 +1,6 @@
-/* The library's numbers in words, for whoever shows them to a person: answers, aspects, outputs, failed parts of a head, and what is
- * wrong with a planner's text. The words are those of the command and of the package in Rust. For C99 and later, and C++11 and later; nothing of it is in the
- * archive. */
+/* The library's numbers in words, for whoever shows them to a person: answers, aspects, outputs, failed parts of a head, and
+ * what is wrong with a planner's text. The words are those of the command and of the package in Rust. For C99 and later, and
+ * C++11 and later; nothing of it is in the archive. */
 #ifndef DEGVUUREL_WORDS_H
 #define DEGVUUREL_WORDS_H
 

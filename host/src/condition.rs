@@ -8,27 +8,27 @@ use std::ops::BitOr;
 impl Condition {
     /// Nothing has failed.
     pub const NONE: Condition = Condition(0);
-    /// The green lamp.
+    /// The green lamp has failed.
     pub const GREEN_FAILED: Condition = Condition(1 << 0);
-    /// The orange lamp.
+    /// The orange lamp has failed.
     pub const ORANGE_FAILED: Condition = Condition(1 << 1);
-    /// The red lamp.
+    /// The red lamp has failed.
     pub const RED_FAILED: Condition = Condition(1 << 2);
-    /// The board OTRO TREN.
+    /// The board OTRO TREN has failed.
     pub const BOARD_FAILED: Condition = Condition(1 << 3);
-    /// Sounder S1.
+    /// Sounder S1 has failed.
     pub const S1_FAILED: Condition = Condition(1 << 4);
-    /// Sounder S2.
+    /// Sounder S2 has failed.
     pub const S2_FAILED: Condition = Condition(1 << 5);
-    /// Sounder S3.
+    /// Sounder S3 has failed.
     pub const S3_FAILED: Condition = Condition(1 << 6);
-    /// Sounder S4.
+    /// Sounder S4 has failed.
     pub const S4_FAILED: Condition = Condition(1 << 7);
-    /// The power.
+    /// The power has failed.
     pub const POWER_FAILED: Condition = Condition(1 << 8);
-    /// The communication.
+    /// The communication has failed.
     pub const COMMUNICATION_FAILED: Condition = Condition(1 << 9);
-    /// All of them: the greatest condition that a report can have.
+    /// Everything has failed: the greatest condition that a report can have.
     pub const EVERY_PART_FAILED: Condition = Condition(1023);
 
     /// What these bits are; a report with bits from 10 up is refused by 2, and a head reads none of them.
@@ -43,10 +43,10 @@ impl Condition {
         self.0
     }
 
-    /// Whether all of these are among them.
+    /// Whether all that `these` has are among them.
     #[must_use]
-    pub const fn contains(self, all: Condition) -> bool {
-        self.0 & all.0 == all.0
+    pub const fn contains(self, these: Condition) -> bool {
+        self.0 & these.0 == these.0
     }
 
     /// The names of the failed parts, bit 0 first, as document 01 has them.

@@ -9,13 +9,13 @@ use std::ops::BitOr;
 impl Outputs {
     /// No lamp and no sounder.
     pub const NONE: Outputs = Outputs(0);
-    /// *Verde fijo*: green.
+    /// *Verde fijo*: green, steady.
     pub const VF: Outputs = Outputs(1 << 0);
     /// *Verde intermitente*: green, flashing.
     pub const VI: Outputs = Outputs(1 << 1);
     /// *Naranja intermitente*: orange, flashing.
     pub const NI: Outputs = Outputs(1 << 2);
-    /// *Rojo fijo*: red.
+    /// *Rojo fijo*: red, steady.
     pub const RF: Outputs = Outputs(1 << 3);
     /// R+: the board OTRO TREN.
     pub const R_PLUS: Outputs = Outputs(1 << 4);
@@ -54,10 +54,10 @@ impl Outputs {
         self.0
     }
 
-    /// Whether all of these are among them.
+    /// Whether all that `these` has are among them.
     #[must_use]
-    pub const fn contains(self, all: Outputs) -> bool {
-        self.0 & all.0 == all.0
+    pub const fn contains(self, these: Outputs) -> bool {
+        self.0 & these.0 == these.0
     }
 
     /// Their names, VF first, as document 000 has them.

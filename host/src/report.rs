@@ -148,7 +148,7 @@ impl Report {
         Kind::Restored { track, island }.into()
     }
 
-    /// So much has failed of a head.
+    /// A head is in this condition.
     #[must_use]
     pub fn head(head: HeadNumber, condition: Condition) -> Report {
         Kind::Head { head, condition }.into()

@@ -9,8 +9,8 @@ mod plan;
 mod rows;
 
 use degvuurel::{
-    record, Answer, Aspect, Fault, HeadNumber, IslandNumber, Message, Metres, NoKind, NoSuchNumber, NotAReport, NotSettings,
-    Register, Report, Seconds, Settings, Station, TrackNumber,
+    record, Answer, Aspect, Condition, Fault, HeadNumber, IslandNumber, Message, Metres, NoKind, NoSuchNumber, NotAReport,
+    NotSettings, Register, Report, Seconds, Settings, Station, TrackNumber,
 };
 use plan::{Misread, Plan};
 use rows::SETTINGS;
@@ -162,7 +162,8 @@ fn what_is_shown_is_padded() {
         assert_eq!(format!("{words:>120}"), format!("{plain:>120}"));
         assert_eq!(format!("{words:.3}"), format!("{plain:.3}"));
     }
-    for number in [format!("{:>3}", TrackNumber(1)), format!("{:>3}", IslandNumber(1)), format!("{:>3}", HeadNumber(1))] {
-        assert_eq!(number, "  1");
+    let numbers: [&dyn Display; 4] = [&TrackNumber(1), &IslandNumber(1), &HeadNumber(1), &Condition::GREEN_FAILED];
+    for number in numbers {
+        assert_eq!(format!("{number:>3}"), "  1");
     }
 }

@@ -100,7 +100,7 @@ pub const OUT_OF_SERVICE: u8 = 5;
 // Whether a track counts for the greatest risk.
 pub type TrackPresence = [bool; 4];
 
-// Outputs are nine bits, bit 0 first. Verde fijo: green.
+// Outputs are nine bits, bit 0 first. Verde fijo: green, steady.
 pub const VF: u16 = 1 << 0;
 
 // Verde intermitente: green, flashing.
@@ -109,7 +109,7 @@ pub const VI: u16 = 1 << 1;
 // Naranja intermitente: orange, flashing.
 pub const NI: u16 = 1 << 2;
 
-// Rojo fijo: red.
+// Rojo fijo: red, steady.
 pub const RF: u16 = 1 << 3;
 
 // R+: the board OTRO TREN.
@@ -149,7 +149,7 @@ pub const POWER_FAILED: u16 = 1 << 8;
 
 pub const COMMUNICATION_FAILED: u16 = 1 << 9;
 
-// The greatest condition that a report can have: all ten.
+// 0 to 1023: the greatest condition that a report can have, all ten.
 pub const EVERY_PART_FAILED: u16 = 1023;
 
 // What each head shows: nine output bits.

@@ -96,15 +96,15 @@ pub fn output_column(outputs: u16) -> [u8; 10]
     ensures { λ r. ⌜ r ≡ outputText outputs ++ space ⌝ }
 {
     [
-        digit(outputs & VF != 0),
-        digit(outputs & VI != 0),
-        digit(outputs & NI != 0),
-        digit(outputs & RF != 0),
-        digit(outputs & R_PLUS != 0),
-        digit(outputs & S1 != 0),
-        digit(outputs & S2 != 0),
-        digit(outputs & S3 != 0),
-        digit(outputs & S4 != 0),
+        digit((outputs & VF) != 0),
+        digit((outputs & VI) != 0),
+        digit((outputs & NI) != 0),
+        digit((outputs & RF) != 0),
+        digit((outputs & R_PLUS) != 0),
+        digit((outputs & S1) != 0),
+        digit((outputs & S2) != 0),
+        digit((outputs & S3) != 0),
+        digit((outputs & S4) != 0),
         b' ',
     ]
 }

@@ -1,7 +1,8 @@
--- Document 01's sentence on the outputs, over every number; and a number that is none of six is above 5.
+-- Document 01's sentence on the outputs, over every number; and the step by which a number that is none of the six is
+-- above 5.
 use mathlib.Core.Path.{_≡_, _∙_, refl}
 use mathlib.Core.List.{[], _∷_}
-use Prim.Native.Nat.{ℕ, zero, suc, _≤_, _<_, zero-le}
+use Prim.Native.Nat.{ℕ, zero, suc, _≤_, _<_}
 use native.Mathlib.Omega.{arith}
 use lib.ListN.{getD, List·getD-eq-default}
 use Rattle.rules.specs.Outputs.{outputsOf}

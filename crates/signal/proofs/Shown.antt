@@ -10,14 +10,14 @@ use native.Mathlib.Omega.{arith}
 use lib.Bits.{and-block, and-le-r, bitAnd, bitOr, or-shifted-r}
 use lib.Count.{ones}
 use lib.Dec.{eqb, ltb}
-use lib.ListN.{take, drop, replicate}
+use lib.ListN.{drop, getD, replicate, take}
 use lib.Pow.{pow-pos, split}
 use borrow.Author.Tests.{eqb-true, le-ltb, lt-ltb, ltb-false, ltb-true}
 use Rattle.rules.specs.Heads.{bit, communicationFailed, failedSounders, headOutputs}
 use Rattle.rules.specs.Heads.{lampFailed, out, powerFailed, those}
 use Rattle.rules.specs.Outputs.{Column, bits, columns, place}
 use Rattle.rules.specs.Words.{count}
-use Rattle.signal.proofs.Digits.{digits, masked, value}
+use Rattle.signal.proofs.Digits.{digits, masked, set, value}
 use Rattle.signal.proofs.Every.{atList}
 
 -- the columns at which a test holds, weighed one by one
@@ -45,17 +45,23 @@ any b [] = b
 any b (c ∷ cs) = any (b || c) cs
 
 -- What the code makes of what its masks leave: whether the head goes dark, its failed sounders counted and the count
--- tested against t; the lamps lit; the sounders heard.
-abbrev pub dark : ℕ → ℕ → ℕ → Bool
+-- tested against t; the lamps lit; the sounders heard, those that have failed being silent.
+abbrev dark : ℕ → ℕ → ℕ → Bool
 dark t cut failed = not (eqb cut 0) || ltb t (ones failed)
 
-abbrev pub lit : ℕ → ℕ → ℕ
+abbrev lit : ℕ → ℕ → ℕ
 lit failed on = cond (eqb failed 0) on 0
 
-abbrev pub heard : ℕ → ℕ → ℕ
-heard failed on = bitAnd on (65535 - failed * 2 % 65536)
+abbrev silent : List Bool → ℕ
+silent failed =
+    bitOr (bitOr (bitOr (cond (getD failed 0 false) 32 0) (cond (getD failed 1 false) 64 0))
+    (cond (getD failed 2 false) 128 0))
+    (cond (getD failed 3 false) 256 0)
 
--- the tests of the three, over the bits under both masks, the first mask's first
+abbrev heard : List Bool → ℕ → ℕ
+heard failed on = bitAnd on (65535 - silent failed)
+
+-- the tests of the three, over the bits of the condition first
 dark-right : List Bool → Bool
 dark-right bs = Bool·beq (dark 1 (value (take 2 bs) * 256) (value (drop 2 bs) * 16))
     (any false (take 2 bs) || ltb 1 (count (λ b. b) (drop 2 bs)))
@@ -65,7 +71,7 @@ lit-right bs =
     eqb (lit (value (take 4 bs) * 1) (value (drop 4 bs) * 1)) (kept 0 (drop 4 bs) (replicate 5 (any false (take 4 bs))))
 
 heard-right : List Bool → Bool
-heard-right bs = eqb (heard (value (take 4 bs) * 16) (value (drop 4 bs) * 32)) (kept 5 (drop 4 bs) (take 4 bs))
+heard-right bs = eqb (heard (take 4 bs) (value (drop 4 bs) * 32)) (kept 5 (drop 4 bs) (take 4 bs))
 
 beq-true : (a b : Bool) → Bool·beq a b ≡ true → a ≡ b
 beq-true true true t = refl
@@ -94,12 +100,19 @@ joined a b y h =
         ap₂ bitAnd (sym (add-zero (b * 2 ^ 5))) (sym (split y 5))
         ∙ and-block 5 b (y / 2 ^ 5) 0 (y % 2 ^ 5) (pow-pos 5) (mod-lt y (pow-pos 5)) ∙ add-zero _
 
+-- Of outputs o and a condition c. The masks of a condition are 15 for the lamps, 240 for the sounders, 16 to 128 for
+-- each of them, and 768 for power and communication; of outputs, 31 for the lamps and 480 for the sounders.
 module _ (o c : ℕ) where
   abbrev pub lamps : ℕ
   lamps = lit (bitAnd c 15) (bitAnd o 31)
 
-  abbrev pub sounders : ℕ
-  sounders = heard (bitAnd c 240) (bitAnd o 480)
+  abbrev failed : List Bool
+  failed =
+      not (eqb (bitAnd c 16) 0) ∷ not (eqb (bitAnd c 32) 0)
+      ∷ not (eqb (bitAnd c 64) 0) ∷ not (eqb (bitAnd c 128) 0) ∷ []
+
+  abbrev sounders : ℕ
+  sounders = heard failed (bitAnd o 480)
 
   dark-is :
       dark 1 (bitAnd c 768) (bitAnd c 240) ≡ (powerFailed c || communicationFailed c || ltb 1 (failedSounders c))
@@ -115,7 +128,8 @@ module _ (o c : ℕ) where
   heard-is : sounders ≡ kept 5 (digits o 5 4) (digits c 4 4)
   unfolding heard-right
   heard-is =
-      ap₂ heard (masked c 4 4) (masked o 5 4) ∙ eqb-true _ _ (atList heard-right (digits c 4 4 ++ digits o 5 4) refl)
+      ap₂ heard (λ i. set c 4 i ∷ set c 5 i ∷ set c 6 i ∷ set c 7 i ∷ []) (masked o 5 4)
+      ∙ eqb-true _ _ (atList heard-right (digits c 4 4 ++ digits o 5 4) refl)
 
   lamps-small : lamps < 2 ^ 5
   lamps-small = go (eqb (bitAnd c 15) 0)

@@ -1,4 +1,5 @@
 // What an aspect shows, and what a head with failed parts still shows of it.
+ghost use mathlib.Core.Bool.{cond};
 ghost use mathlib.Core.Path.{_≡_};
 ghost use Rattle.rules.specs.Heads.{headOutputs};
 ghost use Rattle.rules.specs.Outputs.{outputsOf};
@@ -28,7 +29,6 @@ use rules::SURROUNDINGS;
 use rules::VF;
 use rules::VI;
 
-// The outputs that a head shows, and the parts that fail, each in two groups; cut off, a head shows nothing.
 const LAMPS: u16 = VF | VI | NI | RF | R_PLUS;
 
 const SOUNDERS: u16 = S1 | S2 | S3 | S4;
@@ -36,8 +36,6 @@ const SOUNDERS: u16 = S1 | S2 | S3 | S4;
 const LAMP_FAILED: u16 = GREEN_FAILED | ORANGE_FAILED | RED_FAILED | BOARD_FAILED;
 
 const SOUNDER_FAILED: u16 = S1_FAILED | S2_FAILED | S3_FAILED | S4_FAILED;
-
-const CUT_OFF: u16 = POWER_FAILED | COMMUNICATION_FAILED;
 
 // The nine output bits of an aspect; a number above 5 gives 0.
 pub fn outputs(aspect: u8) -> u16
@@ -58,19 +56,27 @@ pub fn outputs(aspect: u8) -> u16
 pub fn head(outputs: u16, condition: u16) -> u16
     ensures { λ r. ⌜ r ≡ headOutputs outputs condition ⌝ }
 {
-    let cut_off = condition & CUT_OFF != 0;
-    let failed = condition & SOUNDER_FAILED;
-    let many = 1 < u16::count_ones(failed);
-    if cut_off | many {
+    let dark = (condition & (POWER_FAILED | COMMUNICATION_FAILED)) != 0;
+    let many = 1 < u16::count_ones(condition & SOUNDER_FAILED);
+    if dark | many {
         return 0;
     }
-    let lit = if condition & LAMP_FAILED == 0 {
+    let lit = if (condition & LAMP_FAILED) == 0 {
         outputs & LAMPS
     } else {
         0
     };
-    // A sounder's output stands one bit above the bit that marks it failed.
-    let silent = failed << 1;
+    let silent = silenced((condition & S1_FAILED) != 0, S1)
+        | silenced((condition & S2_FAILED) != 0, S2)
+        | silenced((condition & S3_FAILED) != 0, S3)
+        | silenced((condition & S4_FAILED) != 0, S4);
     let heard = outputs & SOUNDERS & !silent;
     lit | heard
+}
+
+// A sounder, where it has failed.
+fn silenced(failed: bool, sounder: u16) -> u16
+    ensures { λ r. ⌜ r ≡ cond failed sounder 0 ⌝ }
+{
+    if failed { sounder } else { 0 }
 }

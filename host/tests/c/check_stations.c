@@ -43,8 +43,8 @@ static void check_outputs(void) {
     SAME(degvuurel_outputs(DEGVUUREL_SURROUNDINGS), 260);
     SAME(degvuurel_outputs(DEGVUUREL_OUT_OF_SERVICE), 0);
     SAME(degvuurel_outputs(6), 0);
-    SAME(degvuurel_head(260, 0), 260);
-    SAME(degvuurel_head(260, 256), 0);
+    SAME(degvuurel_head(DEGVUUREL_NI | DEGVUUREL_S4, 0), DEGVUUREL_NI | DEGVUUREL_S4);
+    SAME(degvuurel_head(DEGVUUREL_NI | DEGVUUREL_S4, DEGVUUREL_POWER_FAILED), 0);
     SAME(degvuurel_head(152, 8), 128);
     SAME(degvuurel_head(152, 48), 0);
     SAME(degvuurel_head(152, 64), 24);

@@ -71,7 +71,7 @@ fn source_words(source: &str) -> String {
     source.lines().map(|line| line.split("//").next().unwrap_or("")).collect::<Vec<_>>().join("\n")
 }
 
-/// The type behind a name that a source gives to an array, or to a number that is laid out as it is without the name.
+/// The type behind a name: of an array, or of a number in a transparent struct.
 fn without_alias(words: &str, kind: &str) -> String {
     let alias = words.split_once(&format!("pub type {kind} = "));
     let array = alias.and_then(|(_, rest)| rest.split_once(";\n")).map_or(kind, |(array, _)| array);

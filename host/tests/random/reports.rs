@@ -26,7 +26,7 @@ pub fn condition(chance: &mut Chance) -> Condition {
         0 => 0,
         1 => 1 << chance.below(10),
         2 => 1 << chance.below(10) | 1 << chance.below(10),
-        _ => chance.between(0, 1023),
+        _ => chance.between(0, Condition::EVERY_PART_FAILED.bits()),
     })
 }
 

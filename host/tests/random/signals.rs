@@ -12,6 +12,28 @@ const SETTINGS: Settings = Settings { tracks: 2, t1: 3, t2: 3, t3: 3, t4: 0, t5:
 /// The speeds within the limits, and some beyond.
 const SPEEDS: u16 = 400;
 
+/// Each part that fails by itself, some together, all, and bits that are not read.
+fn failed() -> [Condition; 16] {
+    [
+        Condition::NONE,
+        Condition::GREEN_FAILED,
+        Condition::ORANGE_FAILED,
+        Condition::RED_FAILED,
+        Condition::BOARD_FAILED,
+        Condition::S1_FAILED,
+        Condition::S2_FAILED,
+        Condition::S3_FAILED,
+        Condition::S4_FAILED,
+        Condition::POWER_FAILED,
+        Condition::COMMUNICATION_FAILED,
+        Condition::BOARD_FAILED | Condition::S1_FAILED,
+        Condition::S1_FAILED | Condition::S2_FAILED,
+        Condition::EVERY_PART_FAILED,
+        Condition::of(1024),
+        Condition::of(u16::MAX),
+    ]
+}
+
 /// Heads of every condition, on every aspect and on every nine outputs.
 pub fn heads(tally: &mut Tally) -> Result<(), String> {
     for number in 0..=u8::MAX {
@@ -31,8 +53,8 @@ pub fn heads(tally: &mut Tally) -> Result<(), String> {
         }
     }
     for outputs in 512..=u16::MAX {
-        for condition in [0, 1, 8, 16, 24, 48, 64, 128, 256, 512, 1023, 1024, u16::MAX] {
-            through(Outputs::of(outputs), Condition::of(condition))?;
+        for condition in failed() {
+            through(Outputs::of(outputs), condition)?;
         }
     }
     heads_of_stations(tally)
@@ -51,11 +73,13 @@ fn heads_of_stations(tally: &mut Tally) -> Result<(), String> {
             station.take(report).map_err(|refusal| refusal.to_string())?;
         }
         same(format_args!("the aspect to try"), &station.aspect(), &aspect)?;
-        for condition in 0..1024 {
-            for other in [0, 1, 64, 256, 1023 - condition] {
-                station.conditions = [condition, other].map(Condition::of);
+        for condition in (0..1024).map(Condition::of) {
+            // What has not failed of the one has failed of the other.
+            let rest = Condition::of(Condition::EVERY_PART_FAILED.bits() - condition.bits());
+            for other in [Condition::NONE, Condition::GREEN_FAILED, Condition::S3_FAILED, Condition::POWER_FAILED, rest] {
+                station.conditions = [condition, other];
                 shown_by_both(&station, tally)?;
-                station.conditions = [other, condition].map(Condition::of);
+                station.conditions = [other, condition];
                 shown_by_both(&station, tally)?;
             }
         }

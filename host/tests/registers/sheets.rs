@@ -31,6 +31,7 @@ fn one_line_of_what_cannot_be_read() {
 fn lines_of_any_fields() {
     let table = [
         (8190, [0, 1, 0, 0, 1], Outputs::VF | Outputs::VI | Outputs::RF, 14, "8190 01001 110100000 14\n"),
+        // Past the nine outputs, and all nine.
         (0, [2, 255, 1, 0, 0], Outputs::of(512), 255, "0 11100 000000000 255\n"),
         (u64::MAX, [0; 5], Outputs::of(511), 10, "18446744073709551615 00000 111111111 10\n"),
     ];

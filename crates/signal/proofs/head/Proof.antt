@@ -1,30 +1,59 @@
 -- `signal::head` meets its contract: read mask by mask it is the definition (`dark-shows`,
 -- `lit-shows`), and the code's tests pick the case.
-use mathlib.Core.Path.{_∙_, sym, ap}
+use mathlib.Core.Path.{_≡_, _∙_, sym, ap}
 use mathlib.Core.Logic.{⊎-elim}
 use mathlib.Core.Bool.{Bool, cond}
-use Prim.Native.Nat.{ℕ}
+use Prim.Native.Nat.{ℕ, _-_}
 use native.Mathlib.Omega.{arith}
 use lib.Bits.{bitAnd, bitOr}
+use borrow.Author.Needs.{needs}
 use borrow.Author.Tests.{eq-eqb, ne-eqb}
-use Rattle.signal.proofs.Shown.{dark-shows, lit-shows, sounders}
+use Rattle.signal.proofs.Shown.{dark-shows, lamps, lit-shows}
 use Rattle.signal.proofs.head.Statement.{statement}
 use Rattle.signal.proofs.head.Tie as tie
 
 returns : tie.Need-returns
 returns c = sym (dark-shows (c .before .args .outputs) (c .before .args .condition) _ (c .if1 .taken) (omega arith))
 
+silenced-requires : tie.Need-silenced-requires
+silenced-requires c κs = search needs
+
+silenced-requires-2 : tie.Need-silenced-requires-2
+silenced-requires-2 c κs = search needs
+
+silenced-requires-3 : tie.Need-silenced-requires-3
+silenced-requires-3 c κs = search needs
+
+silenced-requires-4 : tie.Need-silenced-requires-4
+silenced-requires-4 c κs = search needs
+
 returns-2 : tie.Need-returns-2
 returns-2 c =
-    let met = c .before in
+    let fourth = c .before in
+    let third = fourth .before in
+    let second = third .before in
+    let first = second .before in
+    let met = first .before in
     let left = met .before in
     let o = left .before .args .outputs in
     let d = left .before .args .condition in
-    ap (λ (l : ℕ). bitOr l (sounders o d))
-    (⊎-elim (λ w. w .1 ∙ sym (ap (λ (t : Bool). cond t (bitAnd o 31) 0) (eq-eqb (bitAnd d 15) 0 (w .0 .taken))))
+    let lit : met .if2 .lit ≡ lamps o d =
+    ⊎-elim (λ w. w .1 ∙ sym (ap (λ (t : Bool). cond t (bitAnd o 31) 0) (eq-eqb (bitAnd d 15) 0 (w .0 .taken))))
     (λ w. w .1 ∙ sym (ap (λ (t : Bool). cond t (bitAnd o 31) 0) (ne-eqb (bitAnd d 15) 0 (w .0 .left))))
-    (met .if2 .came))
+    (met .if2 .came) in
+    (λ i. bitOr (lit i) (bitAnd (bitAnd o 480)
+    (65535
+    - bitOr (bitOr (bitOr (first .silenced .ensures i) (second .silenced2 .ensures i)) (third .silenced3 .ensures i))
+    (fourth .silenced4 .ensures i))))
     ∙ sym (lit-shows o d _ (left .if1 .left) (omega arith))
 
 pub head-spec : {M : Type 1} → statement M
-head-spec = tie.close (tie.spec returns returns-2)
+head-spec =
+    tie.close
+    (tie.spec
+    returns
+    silenced-requires
+    silenced-requires-2
+    silenced-requires-3
+    silenced-requires-4
+    returns-2)
