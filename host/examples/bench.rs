@@ -1,8 +1,9 @@
 //! A bench: a planner's text sets it up, reports are entered as they come, rows are looked at again, and the passenger screens are
 //! told what is shown last.
 
-use degvuurel::TrackNumber;
-use degvuurel::{record, Answer, Condition, HeadNumber, IslandNumber, Message, Outputs, Recorder, Refusal, Register, Report};
+use degvuurel::{
+    record, Answer, Condition, HeadNumber, IslandNumber, Message, Outputs, Recorder, Refusal, Register, Report, TrackNumber,
+};
 use std::error::Error;
 
 const PLAN: &[u8] = b"tracks 2\nt1 300\nt2 300\nt3 300\nt4 50\nt5 600\n\nnormalise\n";

@@ -67,7 +67,8 @@ enum {
     DEGVUUREL_S4 = 1 << 8      /* the sounder of NI */
 };
 
-/* What has failed of a head, its condition, joined by |: document 01, "The heads". */
+/* What has failed of a head, its condition, joined by |: document 01, "The heads". These are other bits than those of the
+ * outputs: DEGVUUREL_S1_FAILED is not DEGVUUREL_S1. */
 enum {
     DEGVUUREL_GREEN_FAILED = 1 << 0,
     DEGVUUREL_ORANGE_FAILED = 1 << 1,
@@ -79,7 +80,7 @@ enum {
     DEGVUUREL_S4_FAILED = 1 << 7,
     DEGVUUREL_POWER_FAILED = 1 << 8,
     DEGVUUREL_COMMUNICATION_FAILED = 1 << 9,
-    DEGVUUREL_EVERY_PART_FAILED = 1023 /* the greatest that a report can have */
+    DEGVUUREL_EVERY_PART_FAILED = 1023 /* the greatest condition that is taken */
 };
 
 /* The kinds of report: document 01, "Reports". */

@@ -43,18 +43,27 @@ static inline const char *degvuurel_aspect_words(uint8_t aspect) {
     return degvuurel_word(words, sizeof words / sizeof words[0], aspect);
 }
 
-/* An output, by its bit, 0 to 8. */
-static inline const char *degvuurel_output_words(uint8_t bit) {
-    static const char *const words[] = {"VF", "VI", "NI", "RF", "R+", "S1", "S2", "S3", "S4"};
-    return degvuurel_word(words, sizeof words / sizeof words[0], bit);
+/* Which bit a name is, or 16 where it is none of them or more than one. */
+static inline size_t degvuurel_bit(uint16_t name) {
+    size_t bit = 0;
+    while (bit < 16 && name != 1 << bit) {
+        bit++;
+    }
+    return bit;
 }
 
-/* A part of a head that can fail, by its bit of the condition, 0 to 9. */
-static inline const char *degvuurel_part_words(uint8_t bit) {
+/* One output, DEGVUUREL_VF to DEGVUUREL_S4. */
+static inline const char *degvuurel_output_words(uint16_t output) {
+    static const char *const words[] = {"VF", "VI", "NI", "RF", "R+", "S1", "S2", "S3", "S4"};
+    return degvuurel_word(words, sizeof words / sizeof words[0], degvuurel_bit(output));
+}
+
+/* One part of a head that has failed, DEGVUUREL_GREEN_FAILED to DEGVUUREL_COMMUNICATION_FAILED. */
+static inline const char *degvuurel_part_words(uint16_t part) {
     static const char *const words[] = {
         "green", "orange", "red", "board", "S1", "S2", "S3", "S4", "power", "communication",
     };
-    return degvuurel_word(words, sizeof words / sizeof words[0], bit);
+    return degvuurel_word(words, sizeof words / sizeof words[0], degvuurel_bit(part));
 }
 
 /* What is wrong with a planner's text, 0 to 11. */

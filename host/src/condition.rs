@@ -3,7 +3,7 @@
 use crate::named::{named, write_named};
 use crate::structs::Condition;
 use std::fmt;
-use std::ops::BitOr;
+use std::ops::{BitOr, BitOrAssign};
 
 impl Condition {
     /// Nothing has failed.
@@ -28,10 +28,24 @@ impl Condition {
     pub const POWER_FAILED: Condition = Condition(1 << 8);
     /// The communication has failed.
     pub const COMMUNICATION_FAILED: Condition = Condition(1 << 9);
-    /// Everything has failed: the greatest condition that a report can have.
+    /// Everything has failed: the greatest condition that is taken.
     pub const EVERY_PART_FAILED: Condition = Condition(1023);
 
-    /// What these bits are; a report with bits from 10 up is refused by 2, and a head reads none of them.
+    /// Each of the ten, bit 0 first.
+    pub const ALL: [Condition; 10] = [
+        Condition::GREEN_FAILED,
+        Condition::ORANGE_FAILED,
+        Condition::RED_FAILED,
+        Condition::BOARD_FAILED,
+        Condition::S1_FAILED,
+        Condition::S2_FAILED,
+        Condition::S3_FAILED,
+        Condition::S4_FAILED,
+        Condition::POWER_FAILED,
+        Condition::COMMUNICATION_FAILED,
+    ];
+
+    /// The condition of these bits. Those from bit 10 up are read by no head, and a report with one of them is refused by 2.
     #[must_use]
     pub const fn of(bits: u16) -> Condition {
         Condition(bits)
@@ -43,13 +57,25 @@ impl Condition {
         self.0
     }
 
-    /// Whether all that `these` has are among them.
+    /// These, and `others` too: `|`, where a constant is wanted.
     #[must_use]
-    pub const fn contains(self, these: Condition) -> bool {
-        self.0 & these.0 == these.0
+    pub const fn with(self, others: Condition) -> Condition {
+        Condition(self.0 | others.0)
     }
 
-    /// The names of the failed parts, bit 0 first, as document 01 has them.
+    /// These but for `others`.
+    #[must_use]
+    pub const fn without(self, others: Condition) -> Condition {
+        Condition(self.0 & !others.0)
+    }
+
+    /// Whether everything in `others` is in these too.
+    #[must_use]
+    pub const fn contains(self, others: Condition) -> bool {
+        self.0 & others.0 == others.0
+    }
+
+    /// The names of the failed parts, bit 0 first. A bit from 10 up has none.
     pub fn names(self) -> impl Iterator<Item = &'static str> {
         named(self.0, &["green", "orange", "red", "board", "S1", "S2", "S3", "S4", "power", "communication"])
     }
@@ -58,8 +84,14 @@ impl Condition {
 impl BitOr for Condition {
     type Output = Condition;
 
-    fn bitor(self, other: Condition) -> Condition {
-        Condition(self.0 | other.0)
+    fn bitor(self, others: Condition) -> Condition {
+        self.with(others)
+    }
+}
+
+impl BitOrAssign for Condition {
+    fn bitor_assign(&mut self, others: Condition) {
+        *self = self.with(others);
     }
 }
 

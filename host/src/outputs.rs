@@ -4,7 +4,7 @@ use crate::declared;
 use crate::named::{named, write_named};
 use crate::structs::{Condition, Outputs};
 use std::fmt;
-use std::ops::BitOr;
+use std::ops::{BitOr, BitOrAssign};
 
 impl Outputs {
     /// No lamp and no sounder.
@@ -28,6 +28,10 @@ impl Outputs {
     /// The sounder of NI.
     pub const S4: Outputs = Outputs(1 << 8);
 
+    /// Each of the nine, VF first.
+    pub const ALL: [Outputs; 9] =
+        [Outputs::VF, Outputs::VI, Outputs::NI, Outputs::RF, Outputs::R_PLUS, Outputs::S1, Outputs::S2, Outputs::S3, Outputs::S4];
+
     /// The nine outputs of an aspect's number, as an entry of a register holds it; a number above 5 has none.
     ///
     /// ```
@@ -42,7 +46,7 @@ impl Outputs {
         Outputs(unsafe { declared::degvuurel_outputs(number) })
     }
 
-    /// What these bits are; those from bit 9 up are no outputs, and no head shows them.
+    /// The outputs of these bits; those from bit 9 up are no outputs, and no head shows them.
     #[must_use]
     pub const fn of(bits: u16) -> Outputs {
         Outputs(bits)
@@ -54,13 +58,25 @@ impl Outputs {
         self.0
     }
 
-    /// Whether all that `these` has are among them.
+    /// These, and `others` too: `|`, where a constant is wanted.
     #[must_use]
-    pub const fn contains(self, these: Outputs) -> bool {
-        self.0 & these.0 == these.0
+    pub const fn with(self, others: Outputs) -> Outputs {
+        Outputs(self.0 | others.0)
     }
 
-    /// Their names, VF first, as document 000 has them.
+    /// These but for `others`.
+    #[must_use]
+    pub const fn without(self, others: Outputs) -> Outputs {
+        Outputs(self.0 & !others.0)
+    }
+
+    /// Whether everything in `others` is in these too.
+    #[must_use]
+    pub const fn contains(self, others: Outputs) -> bool {
+        self.0 & others.0 == others.0
+    }
+
+    /// Their names, VF first, as document 000 has them. A bit that is no output has none.
     pub fn names(self) -> impl Iterator<Item = &'static str> {
         named(self.0, &["VF", "VI", "NI", "RF", "R+", "S1", "S2", "S3", "S4"])
     }
@@ -76,8 +92,14 @@ impl Outputs {
 impl BitOr for Outputs {
     type Output = Outputs;
 
-    fn bitor(self, other: Outputs) -> Outputs {
-        Outputs(self.0 | other.0)
+    fn bitor(self, others: Outputs) -> Outputs {
+        self.with(others)
+    }
+}
+
+impl BitOrAssign for Outputs {
+    fn bitor_assign(&mut self, others: Outputs) {
+        *self = self.with(others);
     }
 }
 

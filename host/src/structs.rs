@@ -112,6 +112,9 @@ pub struct Station {
 /// let report = Report::head(HeadNumber(0), Condition::BOARD_FAILED | Condition::S1_FAILED);
 /// assert_eq!(report.to_string(), "head 0 24");
 /// ```
+///
+/// In a pattern `|` is Rust's "or", and would match either part alone: compare by `==`, or match a constant that is made by
+/// [`with`](Condition::with).
 #[derive(Clone, Copy, PartialEq, Eq, Hash, Default)]
 #[repr(transparent)]
 pub struct Condition(pub(crate) u16);
@@ -127,6 +130,15 @@ pub struct Condition(pub(crate) u16);
 /// assert!(shown.contains(Outputs::RF) && !shown.contains(Outputs::S2));
 /// assert_eq!(shown.names().collect::<Vec<_>>(), ["RF", "R+", "S3"]);
 /// assert_eq!(shown.to_string(), "000110010");
+/// ```
+///
+/// In a pattern `|` is Rust's "or", and would match either output alone: compare by `==`, or match a constant that is made by
+/// [`with`](Outputs::with):
+///
+/// ```
+/// # use degvuurel::{Aspect, Outputs};
+/// const FORBIDDEN: Outputs = Outputs::RF.with(Outputs::S2);
+/// assert!(matches!(Aspect::Forbidden.outputs(), FORBIDDEN));
 /// ```
 #[derive(Clone, Copy, PartialEq, Eq, Hash, Default)]
 #[repr(transparent)]

@@ -66,10 +66,13 @@ fn function_in(word: &str) -> Option<&str> {
     name.starts_with("degvuurel_").then_some(name)
 }
 
+/// What is said of a number that has no words.
+const NO_WORDS: &str = "no such number";
+
 /// The words of numbers from 0 up to one that there is not.
 fn words<W: Display>(lines: &mut String, what: &str, past: u8, of: impl Fn(u8) -> Option<W>) {
     for number in 0..=past {
-        let words = of(number).map_or("no such number".to_string(), |words| words.to_string());
+        let words = of(number).map_or(NO_WORDS.to_string(), |words| words.to_string());
         writeln!(lines, "{what} {number}: {words}").expect("a string takes any text");
     }
 }
@@ -79,8 +82,12 @@ fn the_words_are_those_of_the_package() {
     let mut lines = String::new();
     words(&mut lines, "answer", 17, Answer::of);
     words(&mut lines, "aspect", 6, Aspect::of);
-    words(&mut lines, "output", 9, |bit| Outputs::of(1 << bit).names().next());
-    words(&mut lines, "part", 10, |bit| Condition::of(1 << bit).names().next());
+    for bit in 0..=15 {
+        let [output, part] =
+            [Outputs::of(1 << bit).names().next(), Condition::of(1 << bit).names().next()].map(|name| name.unwrap_or(NO_WORDS));
+        writeln!(lines, "output {bit}: {output}\npart {bit}: {part}").expect("a string takes any text");
+    }
+    writeln!(lines, "none: {NO_WORDS}, {NO_WORDS}\ntwo: {NO_WORDS}").expect("a string takes any text");
     words(&mut lines, "fault", 12, |number| {
         if number == 0 {
             Some("understood".to_string())

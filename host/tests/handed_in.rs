@@ -3,8 +3,9 @@
 
 include!("archive/declared.rs");
 
-use degvuurel::{Aspect, Condition, HeadNumber, Island, IslandNumber, Message, Outputs, Report, Seconds, Settings, Station};
-use degvuurel::{Track, TrackNumber};
+use degvuurel::{
+    Aspect, Condition, HeadNumber, Island, IslandNumber, Message, Outputs, Report, Seconds, Settings, Station, Track, TrackNumber,
+};
 
 const WORKED: Settings = Settings { tracks: 2, t1: 300, t2: 300, t3: 300, t4: 0, t5: 600 };
 

@@ -147,6 +147,9 @@ fn the_numbers_are_those_of_the_rattle_sources() {
             [',', ' ', '\n'].map(|end| (format!("DEGVUUREL_{name} = {number}{end}"), format!("DEGVUUREL_{name} {number}{end}")));
         assert!(forms.iter().any(|(answer, size)| header.contains(answer) || header.contains(size)), "{name} is not {number}");
     }
+    // And no other: a size has another form.
+    let in_header = header.lines().filter(|line| line.starts_with("    DEGVUUREL_") && line.contains(" = "));
+    assert_eq!(in_header.count(), 53 - 3 + 16 + 12);
     for fault in Fault::ALL {
         let number = faults.iter().find(|(name, _)| name.replace('_', "") == format!("{fault:?}").to_uppercase());
         assert_eq!(number.map(|(_, number)| number.as_str()), Some(fault.number().to_string().as_str()), "{fault:?}");
@@ -172,6 +175,8 @@ fn the_bits_are_those_of_the_rattle_sources() {
         let kind = if name.ends_with("_FAILED") { "Condition" } else { "Outputs" };
         assert!(rust.contains(&format!("pub const {name}: {kind} = {kind}({bit});")), "{name} is not {bit} in Rust");
     }
+    // And no other, but for those of nothing.
+    assert_eq!(rust.matches("= Outputs(").count() + rust.matches("= Condition(").count(), 9 + 10 + 1 + 2);
 }
 
 /// The layout that the archive's symbol counts. Where this differs, something that goes through the door has changed: then the

@@ -17,6 +17,7 @@ fn outputs_have_their_bits_and_names() {
         (Outputs::S3, 128, "S3"),
         (Outputs::S4, 256, "S4"),
     ];
+    assert_eq!(table[1..].iter().map(|row| row.0).collect::<Vec<_>>(), Outputs::ALL);
     for (outputs, bits, name) in table {
         assert_eq!((outputs.bits(), outputs.names().collect::<String>()), (bits, name.to_string()));
     }
@@ -38,6 +39,7 @@ fn failed_parts_have_their_bits_and_names() {
         (Condition::POWER_FAILED, 256, "power"),
         (Condition::COMMUNICATION_FAILED, 512, "communication"),
     ];
+    assert_eq!(table[1..].iter().map(|row| row.0).collect::<Vec<_>>(), Condition::ALL);
     for (condition, bits, name) in table {
         assert_eq!((condition.bits(), condition.names().collect::<String>()), (bits, name.to_string()));
     }
@@ -50,11 +52,16 @@ fn joined_and_shown() {
     assert_eq!((risk.bits(), format!("{risk:?}"), risk.to_string()), (152, "Outputs(152: RF, R+, S3)".into(), "000110010".into()));
     assert!(risk.contains(Outputs::NONE) && risk.contains(Outputs::RF | Outputs::S3) && risk.contains(risk));
     assert!(!risk.contains(Outputs::RF | Outputs::S2) && !Outputs::RF.contains(risk));
+    assert_eq!((risk | Outputs::RF, Outputs::default()), (risk, Outputs::NONE));
+    assert_eq!((risk.without(Outputs::RF | Outputs::VF), Outputs::of(152)), (Outputs::R_PLUS.with(Outputs::S3), risk));
     assert_eq!(format!("{:?} {:?}", Outputs::NONE, Outputs::of(512)), "Outputs(0) Outputs(512)");
 
     let failed = Condition::BOARD_FAILED | Condition::S1_FAILED;
     assert_eq!((failed.bits(), format!("{failed:?}"), failed.to_string()), (24, "Condition(24: board, S1)".into(), "24".into()));
-    let parts = (0..10).map(|bit| Condition::of(1 << bit));
-    assert_eq!(parts.fold(Condition::NONE, |all, part| all | part), Condition::EVERY_PART_FAILED);
+    let mut grown = failed;
+    grown |= Condition::S1_FAILED;
+    assert_eq!((grown, failed.without(Condition::S1_FAILED | Condition::S2_FAILED)), (failed, Condition::BOARD_FAILED));
+    assert_eq!((Condition::default(), Condition::EVERY_PART_FAILED.bits()), (Condition::NONE, 1023));
+    assert_eq!(format!("{:?} {:?}", Condition::NONE, Condition::of(1024)), "Condition(0) Condition(1024)");
     assert!(failed.contains(Condition::S1_FAILED) && !failed.contains(Condition::S1_FAILED | Condition::S2_FAILED));
 }

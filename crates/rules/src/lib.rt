@@ -149,7 +149,7 @@ pub const POWER_FAILED: u16 = 1 << 8;
 
 pub const COMMUNICATION_FAILED: u16 = 1 << 9;
 
-// 0 to 1023: the greatest condition that a report can have, all ten.
+// 0 to 1023: the greatest condition that is taken, all ten.
 pub const EVERY_PART_FAILED: u16 = 1023;
 
 // What each head shows: nine output bits.

@@ -78,7 +78,11 @@ fn without_alias(words: &str, kind: &str) -> String {
     let named = words.split("#[repr(transparent)]\npub struct ").skip(1).filter_map(|part| part.split_once(");"));
     named.filter_map(|(declared, _)| declared.split_once('(')).fold(array.to_string(), |kind, (name, number)| {
         let number = number.split_whitespace().last().unwrap_or(number);
-        kind.replace(name, number)
+        let whole = |part: &str| if part == name { number.to_string() } else { part.to_string() };
+        match kind.strip_prefix('[').and_then(|array| array.split_once("; ")) {
+            Some((element, length)) => format!("[{}; {length}", whole(element)),
+            None => whole(&kind),
+        }
     })
 }
 

@@ -4,35 +4,24 @@ use crate::filling::shown_by_both;
 use crate::paper;
 use crate::tally::{Asked, Tally};
 use crate::values::{answer, same};
-use degvuurel::TrackNumber;
-use degvuurel::{advance, warning, Aspect, Condition, IslandNumber, Metres, Outputs, Report, Seconds, Settings, Station};
+use degvuurel::{
+    advance, warning, Aspect, Condition, IslandNumber, Metres, Outputs, Report, Seconds, Settings, Station, TrackNumber,
+};
 
 const SETTINGS: Settings = Settings { tracks: 2, t1: 3, t2: 3, t3: 3, t4: 0, t5: 9 };
 
 /// The speeds within the limits, and some beyond.
 const SPEEDS: u16 = 400;
 
-/// Each part that fails by itself, some together, all, and bits that are not read.
-fn failed() -> [Condition; 16] {
-    [
-        Condition::NONE,
-        Condition::GREEN_FAILED,
-        Condition::ORANGE_FAILED,
-        Condition::RED_FAILED,
-        Condition::BOARD_FAILED,
-        Condition::S1_FAILED,
-        Condition::S2_FAILED,
-        Condition::S3_FAILED,
-        Condition::S4_FAILED,
-        Condition::POWER_FAILED,
-        Condition::COMMUNICATION_FAILED,
-        Condition::BOARD_FAILED | Condition::S1_FAILED,
-        Condition::S1_FAILED | Condition::S2_FAILED,
-        Condition::EVERY_PART_FAILED,
-        Condition::of(1024),
-        Condition::of(u16::MAX),
-    ]
-}
+/// Some parts together, all, and bits that are not read.
+const TOGETHER: [Condition; 6] = [
+    Condition::NONE,
+    Condition::BOARD_FAILED.with(Condition::S1_FAILED),
+    Condition::S1_FAILED.with(Condition::S2_FAILED),
+    Condition::EVERY_PART_FAILED,
+    Condition::of(1024),
+    Condition::of(u16::MAX),
+];
 
 /// Heads of every condition, on every aspect and on every nine outputs.
 pub fn heads(tally: &mut Tally) -> Result<(), String> {
@@ -53,7 +42,7 @@ pub fn heads(tally: &mut Tally) -> Result<(), String> {
         }
     }
     for outputs in 512..=u16::MAX {
-        for condition in failed() {
+        for condition in Condition::ALL.into_iter().chain(TOGETHER) {
             through(Outputs::of(outputs), condition)?;
         }
     }
@@ -75,7 +64,7 @@ fn heads_of_stations(tally: &mut Tally) -> Result<(), String> {
         same(format_args!("the aspect to try"), &station.aspect(), &aspect)?;
         for condition in (0..1024).map(Condition::of) {
             // What has not failed of the one has failed of the other.
-            let rest = Condition::of(Condition::EVERY_PART_FAILED.bits() - condition.bits());
+            let rest = Condition::EVERY_PART_FAILED.without(condition);
             for other in [Condition::NONE, Condition::GREEN_FAILED, Condition::S3_FAILED, Condition::POWER_FAILED, rest] {
                 station.conditions = [condition, other];
                 shown_by_both(&station, tally)?;
