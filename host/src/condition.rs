@@ -1,9 +1,10 @@
 //! What has failed of a head, by name.
 
-use crate::named::{named, write_named};
+use crate::named::{named, named_bits};
 use crate::structs::Condition;
 use std::fmt;
-use std::ops::{BitOr, BitOrAssign};
+
+named_bits!(Condition);
 
 impl Condition {
     /// Nothing has failed.
@@ -51,47 +52,9 @@ impl Condition {
         Condition(bits)
     }
 
-    /// The bits.
-    #[must_use]
-    pub const fn bits(self) -> u16 {
-        self.0
-    }
-
-    /// These, and `others` too: `|`, where a constant is wanted.
-    #[must_use]
-    pub const fn with(self, others: Condition) -> Condition {
-        Condition(self.0 | others.0)
-    }
-
-    /// These but for `others`.
-    #[must_use]
-    pub const fn without(self, others: Condition) -> Condition {
-        Condition(self.0 & !others.0)
-    }
-
-    /// Whether everything in `others` is in these too.
-    #[must_use]
-    pub const fn contains(self, others: Condition) -> bool {
-        self.0 & others.0 == others.0
-    }
-
     /// The names of the failed parts, bit 0 first. A bit from 10 up has none.
     pub fn names(self) -> impl Iterator<Item = &'static str> {
         named(self.0, &["green", "orange", "red", "board", "S1", "S2", "S3", "S4", "power", "communication"])
-    }
-}
-
-impl BitOr for Condition {
-    type Output = Condition;
-
-    fn bitor(self, others: Condition) -> Condition {
-        self.with(others)
-    }
-}
-
-impl BitOrAssign for Condition {
-    fn bitor_assign(&mut self, others: Condition) {
-        *self = self.with(others);
     }
 }
 
@@ -99,12 +62,5 @@ impl BitOrAssign for Condition {
 impl fmt::Display for Condition {
     fn fmt(&self, f: &mut fmt::Formatter<'_>) -> fmt::Result {
         self.0.fmt(f)
-    }
-}
-
-/// `Condition(24: board, S1)`.
-impl fmt::Debug for Condition {
-    fn fmt(&self, f: &mut fmt::Formatter<'_>) -> fmt::Result {
-        write_named(f, "Condition", self.0, self.names())
     }
 }

@@ -1,10 +1,11 @@
 //! The nine outputs by name.
 
 use crate::declared;
-use crate::named::{named, write_named};
+use crate::named::{named, named_bits};
 use crate::structs::{Condition, Outputs};
 use std::fmt;
-use std::ops::{BitOr, BitOrAssign};
+
+named_bits!(Outputs);
 
 impl Outputs {
     /// No lamp and no sounder.
@@ -52,30 +53,6 @@ impl Outputs {
         Outputs(bits)
     }
 
-    /// The bits.
-    #[must_use]
-    pub const fn bits(self) -> u16 {
-        self.0
-    }
-
-    /// These, and `others` too: `|`, where a constant is wanted.
-    #[must_use]
-    pub const fn with(self, others: Outputs) -> Outputs {
-        Outputs(self.0 | others.0)
-    }
-
-    /// These but for `others`.
-    #[must_use]
-    pub const fn without(self, others: Outputs) -> Outputs {
-        Outputs(self.0 & !others.0)
-    }
-
-    /// Whether everything in `others` is in these too.
-    #[must_use]
-    pub const fn contains(self, others: Outputs) -> bool {
-        self.0 & others.0 == others.0
-    }
-
     /// Their names, VF first, as document 000 has them. A bit that is no output has none.
     pub fn names(self) -> impl Iterator<Item = &'static str> {
         named(self.0, &["VF", "VI", "NI", "RF", "R+", "S1", "S2", "S3", "S4"])
@@ -89,30 +66,9 @@ impl Outputs {
     }
 }
 
-impl BitOr for Outputs {
-    type Output = Outputs;
-
-    fn bitor(self, others: Outputs) -> Outputs {
-        self.with(others)
-    }
-}
-
-impl BitOrAssign for Outputs {
-    fn bitor_assign(&mut self, others: Outputs) {
-        *self = self.with(others);
-    }
-}
-
 impl fmt::Display for Outputs {
     fn fmt(&self, f: &mut fmt::Formatter<'_>) -> fmt::Result {
         let digits: String = (0..9).map(|bit| if self.0 >> bit & 1 == 1 { '1' } else { '0' }).collect();
         f.pad(&digits)
-    }
-}
-
-/// `Outputs(34: VI, S1)`.
-impl fmt::Debug for Outputs {
-    fn fmt(&self, f: &mut fmt::Formatter<'_>) -> fmt::Result {
-        write_named(f, "Outputs", self.0, self.names())
     }
 }

@@ -47,7 +47,7 @@ any b (c ∷ cs) = any (b || c) cs
 -- What the code makes of what its masks leave: whether the head goes dark, its failed sounders counted and the count
 -- tested against t; the lamps lit; the sounders heard, those that have failed being silent.
 abbrev dark : ℕ → ℕ → ℕ → Bool
-dark t cut failed = not (eqb cut 0) || ltb t (ones failed)
+dark t power failed = not (eqb power 0) || ltb t (ones failed)
 
 abbrev lit : ℕ → ℕ → ℕ
 lit failed on = cond (eqb failed 0) on 0

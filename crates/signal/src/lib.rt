@@ -74,7 +74,7 @@ pub fn head(outputs: u16, condition: u16) -> u16
     lit | heard
 }
 
-// A sounder, where it has failed.
+// The sounder where it has failed, and nothing where it has not.
 fn silenced(failed: bool, sounder: u16) -> u16
     ensures { λ r. ⌜ r ≡ cond failed sounder 0 ⌝ }
 {

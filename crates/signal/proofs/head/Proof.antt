@@ -2,10 +2,11 @@
 -- `lit-shows`), and the code's tests pick the case.
 use mathlib.Core.Path.{_≡_, _∙_, sym, ap}
 use mathlib.Core.Logic.{⊎-elim}
-use mathlib.Core.Bool.{Bool, cond}
+use mathlib.Core.Bool.{Bool, cond, not}
 use Prim.Native.Nat.{ℕ, _-_}
 use native.Mathlib.Omega.{arith}
 use lib.Bits.{bitAnd, bitOr}
+use lib.Dec.{eqb}
 use borrow.Author.Needs.{needs}
 use borrow.Author.Tests.{eq-eqb, ne-eqb}
 use Rattle.signal.proofs.Shown.{dark-shows, lamps, lit-shows}
@@ -41,10 +42,11 @@ returns-2 c =
     ⊎-elim (λ w. w .1 ∙ sym (ap (λ (t : Bool). cond t (bitAnd o 31) 0) (eq-eqb (bitAnd d 15) 0 (w .0 .taken))))
     (λ w. w .1 ∙ sym (ap (λ (t : Bool). cond t (bitAnd o 31) 0) (ne-eqb (bitAnd d 15) 0 (w .0 .left))))
     (met .if2 .came) in
-    (λ i. bitOr (lit i) (bitAnd (bitAnd o 480)
-    (65535
-    - bitOr (bitOr (bitOr (first .silenced .ensures i) (second .silenced2 .ensures i)) (third .silenced3 .ensures i))
-    (fourth .silenced4 .ensures i))))
+    let s1 : first .silenced .result ≡ cond (not (eqb (bitAnd d 16) 0)) 32 0 = first .silenced .ensures in
+    let s2 : second .silenced2 .result ≡ cond (not (eqb (bitAnd d 32) 0)) 64 0 = second .silenced2 .ensures in
+    let s3 : third .silenced3 .result ≡ cond (not (eqb (bitAnd d 64) 0)) 128 0 = third .silenced3 .ensures in
+    let s4 : fourth .silenced4 .result ≡ cond (not (eqb (bitAnd d 128) 0)) 256 0 = fourth .silenced4 .ensures in
+    (λ i. bitOr (lit i) (bitAnd (bitAnd o 480) (65535 - bitOr (bitOr (bitOr (s1 i) (s2 i)) (s3 i)) (s4 i))))
     ∙ sym (lit-shows o d _ (left .if1 .left) (omega arith))
 
 pub head-spec : {M : Type 1} → statement M
