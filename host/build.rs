@@ -7,7 +7,7 @@ use std::process::exit;
 use std::{env, fs};
 
 /// The symbol that an archive of this package's layout has: src/declared.rs names it too.
-const LAYOUT: &str = "degvuurel_layout_1";
+const LAYOUT: &str = "degvuurel_layout_2";
 
 /// The folder of an archive that stands elsewhere.
 const FOLDER: &str = "DEGVUUREL_LIB_DIR";

@@ -220,15 +220,16 @@ struct degvuurel_seconds {
     uint16_t number;
 };
 
-/* A distance. */
-struct degvuurel_metres {
-    uint16_t number;
+/* A distance: 12,917 are 1291.7 m. Before layout 2 a distance was in metres, in 16 bits and a field called number: whoever read
+ * that stops at the compiler. */
+struct degvuurel_decimetres {
+    uint32_t decimetres;
 };
 
 /* An answer, 0 or 8, and the distance, which is 0 where the answer is not. */
 struct degvuurel_sited {
     uint8_t answer;
-    struct degvuurel_metres distance;
+    struct degvuurel_decimetres distance;
 };
 
 /* What reading or stepping returns: its answer, the entry that it names, counted from 1, how many entries were read, and the
@@ -308,8 +309,8 @@ DEGVUUREL_SIZE(heads_shown, 4);
 DEGVUUREL_SIZE(zones_shown, 5);
 DEGVUUREL_SIZE(presence_shown, 4);
 DEGVUUREL_SIZE(seconds, 2);
-DEGVUUREL_SIZE(metres, 2);
-DEGVUUREL_SIZE(sited, 4);
+DEGVUUREL_SIZE(decimetres, 4);
+DEGVUUREL_SIZE(sited, 8);
 DEGVUUREL_SIZE(reading, 168);
 DEGVUUREL_SIZE(entry_place, 24);
 DEGVUUREL_SIZE(row_fields, 24);
@@ -320,15 +321,15 @@ DEGVUUREL_SIZE(recorded, 24);
 DEGVUUREL_SIZE(line, 8);
 #undef DEGVUUREL_SIZE
 
-/* The layout that this header is of: 1. Whoever includes the header names the function, so that an archive of another layout does
+/* The layout that this header is of: 2. Whoever includes the header names the function, so that an archive of another layout does
  * not link. */
-uint8_t degvuurel_layout_1(void);
+uint8_t degvuurel_layout_2(void);
 #if defined(__has_attribute)
 #if __has_attribute(retain)
 __attribute__((retain)) /* else a linker that is told to drop what nobody reads drops it */
 #endif
 #endif
-__attribute__((used)) static uint8_t (*const degvuurel_layout_needed)(void) = degvuurel_layout_1;
+__attribute__((used)) static uint8_t (*const degvuurel_layout_needed)(void) = degvuurel_layout_2;
 
 /* A fresh station. Where the settings are refused with 8, one of the least settings. */
 struct degvuurel_made degvuurel_make(struct degvuurel_settings settings);

@@ -5,7 +5,7 @@
 //! which is not read or written by anyone else meanwhile, and that a bool is 0 or 1. The safe functions of this package take slices
 //! and bools of Rust, for which both hold.
 
-use crate::structs::{Message, Metres, Report, RowFields, Seconds, Settings, SheetText, Station, MOST, MOST_BYTES};
+use crate::structs::{Decimetres, Message, Report, RowFields, Seconds, Settings, SheetText, Station, MOST, MOST_BYTES};
 
 /// The answer to settings, and the station made of them.
 #[repr(C)]
@@ -60,7 +60,7 @@ pub struct Presence {
 #[repr(C)]
 pub struct Sited {
     pub answer: u8,
-    pub distance: Metres,
+    pub distance: Decimetres,
 }
 
 /// The answer to a text, and its message: zeros where it is refused.
@@ -101,7 +101,7 @@ pub type RegisterBytes = [u8; MOST_BYTES];
 pub type RowLines = [usize; MOST];
 
 extern "C" {
-    pub fn degvuurel_layout_1() -> u8;
+    pub fn degvuurel_layout_2() -> u8;
 
     pub fn degvuurel_make(settings: Settings) -> Made;
     pub fn degvuurel_take(station: Station, report: Report) -> Taken;
@@ -143,4 +143,4 @@ extern "C" {
 
 /// Names the layout that these declarations are of, so that an archive of another one does not link.
 #[used]
-static LAYOUT: unsafe extern "C" fn() -> u8 = degvuurel_layout_1;
+static LAYOUT: unsafe extern "C" fn() -> u8 = degvuurel_layout_2;

@@ -60,6 +60,8 @@ pub use register::{Reading, Register};
 pub use report::{report_in, Kind, NoKind};
 pub use sheet::{print, refusal_line, row_line, title_line};
 pub use siting::{advance, warning};
-pub use structs::{Condition, Island, Message, Metres, Outputs, Report, RowFields, Seconds, Settings, SheetText, Station, Track};
+pub use structs::{
+    Condition, Decimetres, Island, Message, Outputs, Report, RowFields, Seconds, Settings, SheetText, Station, Track,
+};
 pub use structs::{ENTRY, HEADER, MESSAGE, MESSAGE_READ, MOST, MOST_BYTES, SHEET};
 pub use typed::{NotAReport, NotSettings};

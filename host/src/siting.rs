@@ -2,7 +2,7 @@
 
 use crate::answer::{Answer, Refusal};
 use crate::declared;
-use crate::structs::{Metres, Seconds};
+use crate::structs::{Decimetres, Seconds};
 use std::fmt;
 
 impl fmt::Display for Seconds {
@@ -11,29 +11,31 @@ impl fmt::Display for Seconds {
     }
 }
 
-impl fmt::Display for Metres {
+impl fmt::Display for Decimetres {
     fn fmt(&self, f: &mut fmt::Formatter<'_>) -> fmt::Result {
-        f.pad(&format!("{} m", self.0))
+        f.pad(&format!("{}.{} m", self.0 / 10, self.0 % 10))
     }
 }
 
-fn found(sited: declared::Sited) -> Result<Metres, Refusal> {
+fn found(sited: declared::Sited) -> Result<Decimetres, Refusal> {
     Answer::given(sited.answer).done().map(|()| sited.distance)
 }
 
 /// The advance distance, for a speed of 1 to 350 km/h and a message time of 0 to 60 s.
 ///
 /// ```
-/// use degvuurel::{advance, Metres, Seconds};
+/// use degvuurel::{advance, Decimetres, Seconds};
 ///
-/// assert_eq!(advance(155, Seconds(6)), Ok(Metres(1550)));
+/// let distance = advance(155, Seconds(0)).unwrap();
+/// assert_eq!(distance, Decimetres(12917));
+/// assert_eq!(distance.to_string(), "1291.7 m");
 /// assert_eq!(advance(155, Seconds(61)).unwrap_err().number(), 8);
 /// ```
 ///
 /// # Errors
 ///
 /// 8 outside these limits.
-pub fn advance(speed: u16, message: Seconds) -> Result<Metres, Refusal> {
+pub fn advance(speed: u16, message: Seconds) -> Result<Decimetres, Refusal> {
     // SAFETY: any numbers are taken.
     found(unsafe { declared::degvuurel_advance(speed, message) })
 }
@@ -41,15 +43,15 @@ pub fn advance(speed: u16, message: Seconds) -> Result<Metres, Refusal> {
 /// The warning distance, for a speed of 1 to 350 km/h and 1 to 4 tracks to cross.
 ///
 /// ```
-/// use degvuurel::{warning, Metres};
+/// use degvuurel::{warning, Decimetres};
 ///
-/// assert_eq!(warning(126, 1), Ok(Metres(245)));
+/// assert_eq!(warning(126, 1), Ok(Decimetres(2450)));
 /// ```
 ///
 /// # Errors
 ///
 /// 8 outside these limits.
-pub fn warning(speed: u16, tracks: u8) -> Result<Metres, Refusal> {
+pub fn warning(speed: u16, tracks: u8) -> Result<Decimetres, Refusal> {
     // SAFETY: any numbers are taken.
     found(unsafe { declared::degvuurel_warning(speed, tracks) })
 }

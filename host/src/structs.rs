@@ -166,10 +166,10 @@ pub struct Report {
 #[repr(C)]
 pub struct Seconds(pub u16);
 
-/// A distance.
+/// A distance, which is shown in metres: `Decimetres(12917)` as `1291.7 m`.
 #[derive(Clone, Copy, Debug, PartialEq, Eq, Hash, PartialOrd, Ord)]
 #[repr(C)]
-pub struct Metres(pub u16);
+pub struct Decimetres(pub u32);
 
 /// What a row of a sheet shows.
 #[derive(Clone, Copy, Debug, PartialEq, Eq, Hash)]

@@ -113,7 +113,7 @@ fn another_machine_is_refused_in_a_clear_line() {
 fn another_layout_does_not_link() {
     for (compiler, language) in LANGUAGES {
         for level in [LEVELS[0], LEVELS[1], "-Wl,--gc-sections", "-flto"] {
-            let options = [language, &[level, "-Ddegvuurel_layout_1=degvuurel_layout_0"]].concat();
+            let options = [language, &[level, "-Ddegvuurel_layout_2=degvuurel_layout_0"]].concat();
             let said = refused(compiler, &options, &["fill.c"]);
             assert!(said.contains("degvuurel_layout_0"), "{compiler}: {said}");
         }

@@ -133,16 +133,16 @@ fn the_greatest_ages_and_holds() {
 /// Refused siting returns distance 0, which the wrapper does not hand on.
 #[test]
 fn siting_at_its_limits() {
-    let advances = [(1, 0, 0, 9), (350, 60, 0, 8750), (0, 6, 8, 0), (351, 6, 8, 0), (155, 61, 8, 0)];
-    for (speed, message, answer, metres) in advances {
+    let advances = [(1, 0, 0, 84), (350, 60, 0, 87_500), (0, 6, 8, 0), (351, 6, 8, 0), (155, 61, 8, 0)];
+    for (speed, message, answer, decimetres) in advances {
         // SAFETY: any numbers are taken.
         let sited = unsafe { declared::degvuurel_advance(speed, Seconds(message)) };
-        assert_eq!((sited.answer, sited.distance.0), (answer, metres), "{speed} km/h, {message} s");
+        assert_eq!((sited.answer, sited.distance.0), (answer, decimetres), "{speed} km/h, {message} s");
     }
-    let warnings = [(1, 1, 0, 2), (350, 4, 0, 2723), (0, 2, 8, 0), (351, 2, 8, 0), (155, 0, 8, 0), (155, 5, 8, 0)];
-    for (speed, tracks, answer, metres) in warnings {
+    let warnings = [(1, 1, 0, 20), (350, 4, 0, 27_223), (0, 2, 8, 0), (351, 2, 8, 0), (155, 0, 8, 0), (155, 5, 8, 0)];
+    for (speed, tracks, answer, decimetres) in warnings {
         // SAFETY: any numbers are taken.
         let sited = unsafe { declared::degvuurel_warning(speed, tracks) };
-        assert_eq!((sited.answer, sited.distance.0), (answer, metres), "{speed} km/h, {tracks} tracks");
+        assert_eq!((sited.answer, sited.distance.0), (answer, decimetres), "{speed} km/h, {tracks} tracks");
     }
 }

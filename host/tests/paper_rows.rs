@@ -103,14 +103,16 @@ fn c12_to_c14() {
     assert_eq!(head(152, 1 | 16), 128);
     assert_eq!([256, 512].map(|condition| head(511, condition)), [0, 0]);
     assert_eq!(head(0xFFFF, 0xFC00), 511);
-    assert_eq!(warning(155, 2), (0, 603));
-    assert_eq!([0, 6].map(|m| advance(155, m)), [(0, 1292), (0, 1550)]);
-    assert_eq!(warning(126, 1), (0, 245));
-    assert_eq!((advance(350, 60), warning(350, 4)), ((0, 8750), (0, 2723)));
-    for (speed, message) in [(0, 0), (351, 0), (1, 61), (65535, 65535)] {
+    assert_eq!(warning(155, 2), (0, 6028));
+    assert_eq!([0, 6].map(|m| advance(155, m)), [(0, 12_917), (0, 15_500)]);
+    assert_eq!(warning(126, 1), (0, 2450));
+    // The corners of the limits, and one step past each limit.
+    assert_eq!([(1, 0), (350, 60)].map(|(speed, message)| advance(speed, message)), [(0, 84), (0, 87_500)]);
+    assert_eq!([(1, 1), (350, 4)].map(|(speed, tracks)| warning(speed, tracks)), [(0, 20), (0, 27_223)]);
+    for (speed, message) in [(0, 0), (0, 60), (351, 0), (351, 60), (1, 61), (350, 61), (1, 256), (1, 65535), (65535, 65535)] {
         assert_eq!(advance(speed, message), (8, 0));
     }
-    for (speed, tracks) in [(0, 1), (351, 1), (1, 0), (1, 5), (65535, 255)] {
+    for (speed, tracks) in [(0, 1), (0, 4), (351, 1), (351, 4), (1, 0), (350, 0), (1, 5), (350, 5), (1, 255), (65535, 255)] {
         assert_eq!(warning(speed, tracks), (8, 0));
     }
     assert_eq!([0, 1, 2, 3, 4, 5, 6, 255].map(outputs), [1, 34, 72, 152, 260, 0, 0, 0]);

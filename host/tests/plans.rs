@@ -9,7 +9,7 @@ mod plan;
 mod rows;
 
 use degvuurel::{
-    record, Answer, Aspect, Condition, Fault, HeadNumber, IslandNumber, Message, Metres, NoKind, NoSuchNumber, NotAReport,
+    record, Answer, Aspect, Condition, Decimetres, Fault, HeadNumber, IslandNumber, Message, NoKind, NoSuchNumber, NotAReport,
     NotSettings, Register, Report, Seconds, Settings, Station, TrackNumber,
 };
 use plan::{Misread, Plan};
@@ -154,7 +154,7 @@ fn what_is_shown_is_padded() {
         &NotSettings::Report(8),
         &settings,
         &Seconds(6),
-        &Metres(6),
+        &Decimetres(6),
         &message,
     ];
     for words in shown {

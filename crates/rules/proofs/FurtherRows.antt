@@ -1,4 +1,4 @@
--- Rows of our own that wrong rules had called for hold, proved by computation, one theorem for each name.
+-- Rows of our own that wrong rules or a request had called for hold, proved by computation, one theorem for each name.
 use mathlib.Core.Path.{_≡_, refl}
 use mathlib.Core.List.{[], _∷_}
 use Rattle.rules.proofs.Computed.{computed}
@@ -7,7 +7,7 @@ use Rattle.rules.specs.rows.Row.{firstWrong, named, others}
 
 -- no row has another name than these
 pub no-other : others (46 ∷ 47 ∷ 48 ∷ 49 ∷ 50 ∷ 51 ∷ 52 ∷ 53 ∷ 54 ∷ 55 ∷ 56 ∷ 57 ∷ 58 ∷ 59 ∷ 60 ∷ 61 ∷ 62 ∷ 63 ∷ 64 ∷ 65
-    ∷ 66 ∷ 67 ∷ 68 ∷ 69 ∷ []) furtherRows ≡ []
+    ∷ 66 ∷ 67 ∷ 68 ∷ 69 ∷ 70 ∷ 71 ∷ []) furtherRows ≡ []
 unfolding computed
 no-other = refl
 
@@ -106,3 +106,11 @@ row-68 = refl
 pub row-69 : firstWrong (named 69 furtherRows) ≡ 0
 unfolding computed
 row-69 = refl
+
+pub row-70 : firstWrong (named 70 furtherRows) ≡ 0
+unfolding computed
+row-70 = refl
+
+pub row-71 : firstWrong (named 71 furtherRows) ≡ 0
+unfolding computed
+row-71 = refl

@@ -1,4 +1,5 @@
--- Document 01, "Siting". Seconds and metres are kept apart.
+-- Document 01, "Siting", with request 5 of document 02: distances to the decimetre. Seconds and decimetres are kept
+-- apart.
 use Prim.Native.Nat.{ℕ, _+_, _-_, _*_, _/_}
 use mathlib.Core.Bool.{Bool, cond, not, _&&_}
 use lib.Dec.{eqb}
@@ -21,19 +22,21 @@ tracksGood n = within 1 4 n
 abbrev pub roundedUp : ℕ → ℕ → ℕ
 roundedUp n d = (n + (d - 1)) / d
 
--- The advance distance is 5·v·(30+m)/18 metres and the warning distance 5·v·7·n/18 metres, each rounded up once.
-abbrev pub advanceMetres : ℕ → ℕ → ℕ
-advanceMetres v m = roundedUp (5 * v * (30 + m)) 18
+-- Both siting answers become decimetres, rounded up once: 50·v·(30+m)/18 (the advance distance) and 50·v·7·n/18 (the
+-- warning distance).
+abbrev pub advanceDecimetres : ℕ → ℕ → ℕ
+advanceDecimetres v m = roundedUp (50 * v * (30 + m)) 18
 
-abbrev pub warningMetres : ℕ → ℕ → ℕ
-warningMetres v n = roundedUp (5 * v * 7 * n) 18
+abbrev pub warningDecimetres : ℕ → ℕ → ℕ
+warningDecimetres v n = roundedUp (50 * v * 7 * n) 18
 
 -- Refused siting returns distance 0.
 abbrev pub sited : ℕ → ℕ → Sited
-sited answer metres = record { answer = answer; distance = record { 0 = cond (eqb answer done) metres 0 } }
+sited answer decimetres = record { answer = answer; distance = record { 0 = cond (eqb answer done) decimetres 0 } }
 
 unfoldable pub advanceSited : ℕ → Seconds → Sited
-advanceSited v m = sited (outsideLimits if not (speedGood v && messageGood (m .0)) then done) (advanceMetres v (m .0))
+advanceSited v m =
+    sited (outsideLimits if not (speedGood v && messageGood (m .0)) then done) (advanceDecimetres v (m .0))
 
 unfoldable pub warningSited : ℕ → ℕ → Sited
-warningSited v n = sited (outsideLimits if not (speedGood v && tracksGood n) then done) (warningMetres v n)
+warningSited v n = sited (outsideLimits if not (speedGood v && tracksGood n) then done) (warningDecimetres v n)

@@ -163,13 +163,13 @@ pub struct Seconds(pub u16);
 
 // A distance.
 #[repr(C)]
-pub struct Metres(pub u16);
+pub struct Decimetres(pub u32);
 
 // An answer, 0 or 8, and the distance, which is 0 where the answer is not.
 #[repr(C)]
 pub struct Sited {
     pub answer: u8,
-    pub distance: Metres,
+    pub distance: Decimetres,
 }
 
 impl Seconds {
@@ -186,14 +186,14 @@ impl Seconds {
     }
 }
 
-impl Metres {
-    pub fn of(number: u16) -> Self
+impl Decimetres {
+    pub fn of(number: u32) -> Self
         ensures { λ r. ⌜ r ≡ record { 0 = number } ⌝ }
     {
         Self(number)
     }
 
-    pub fn number(self) -> u16
+    pub fn number(self) -> u32
         ensures { λ r. ⌜ r ≡ self .0 ⌝ }
     {
         self.0

@@ -22,7 +22,7 @@ bounds v l m x t = let each = and-eq-true-iff (speedGood v) (within l m x) .0 t 
     (most 1 350 v (each .0), most l m x (each .1))
 
 -- the numerator, a product of two bounded numbers, is never above what `found` takes
-pub product : {a b : ℕ} (x y : ℕ) → T (leb (x * y) 157500) → a ≤ x → b ≤ y → a * b ≤ 157500
+pub product : {a b : ℕ} (x y : ℕ) → T (leb (x * y) 1575000) → a ≤ x → b ≤ y → a * b ≤ 1575000
 product x y t p q = le-trans (mul-le-mul p q) (lit≤ t)
 
 -- the answer: done with the distance n where the limits are met, and otherwise refused with none

@@ -4,7 +4,7 @@ ghost use Prim.Native.Nat.{_≤_};
 ghost use Rattle.rules.specs.Numbers.{done, outsideLimits};
 ghost use Rattle.rules.specs.Siting.{advanceSited, roundedUp, sited, warningSited};
 use rules::DONE;
-use rules::Metres;
+use rules::Decimetres;
 use rules::OUTSIDE_LIMITS;
 use rules::Seconds;
 use rules::Sited;
@@ -16,7 +16,7 @@ pub fn advance(speed: u16, message: Seconds) -> Sited
     let seconds = message.number();
     let good = (1 <= speed) & (speed <= 350) & (seconds <= 60);
     if good {
-        return found(5 * speed as u32 * (30 + seconds as u32));
+        return found(50 * speed as u32 * (30 + seconds as u32));
     }
     refused()
 }
@@ -27,19 +27,20 @@ pub fn warning(speed: u16, tracks: u8) -> Sited
 {
     let good = (1 <= speed) & (speed <= 350) & (1 <= tracks) & (tracks <= 4);
     if good {
-        return found(5 * speed as u32 * 7 * tracks as u32);
+        return found(50 * speed as u32 * 7 * tracks as u32);
     }
     refused()
 }
 
-// A number of eighteenths of a metre, rounded up once. The greatest is 5 · 350 · 90.
+// A number of eighteenths of a decimetre, rounded up once. The greatest is 50 · 350 · 90, and the greatest distance
+// 87,500 decimetres, which sixteen bits do not hold.
 fn found(eighteenths: u32) -> Sited
-    requires { ⌜ eighteenths ≤ 157500 ⌝ }
+    requires { ⌜ eighteenths ≤ 1575000 ⌝ }
     ensures { λ r. ⌜ r ≡ sited done (roundedUp eighteenths 18) ⌝ }
 {
     Sited {
         answer: DONE,
-        distance: Metres::of(((eighteenths + 17) / 18) as u16),
+        distance: Decimetres::of((eighteenths + 17) / 18),
     }
 }
 
@@ -48,6 +49,6 @@ fn refused() -> Sited
 {
     Sited {
         answer: OUTSIDE_LIMITS,
-        distance: Metres::of(0),
+        distance: Decimetres::of(0),
     }
 }

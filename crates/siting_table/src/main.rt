@@ -72,15 +72,20 @@ fn line(place: usize, message: Seconds) -> Shown {
     }
 }
 
-// A distance, or the number that it is refused with, in eleven columns.
+// A distance in metres with one decimal, or the number that it is refused with, in eleven columns.
 fn distance(sited: Sited) -> bool {
     if sited.answer != DONE {
         return verb::write(b"  refused 8");
     }
-    let metres = sited.distance;
-    let mut digits = [0u8; 20];
-    let length = io::decimal(metres.number() as u64, &mut digits);
-    cell(b"         ", &digits[..length]) & verb::write(b" m")
+    let decimetres = sited.distance.number() as u64;
+    let mut metres = [0u8; 20];
+    let length = io::decimal(decimetres / 10, &mut metres);
+    let mut tenth = [0u8; 20];
+    let one = io::decimal(decimetres % 10, &mut tenth);
+    cell(b"       ", &metres[..length])
+        & verb::write(b".")
+        & verb::write(&tenth[..one])
+        & verb::write(b" m")
 }
 
 // A text at the right end of as many columns as there are blanks.

@@ -4,5 +4,5 @@
 #[path = "../../src/declared.rs"]
 mod declared;
 mod structs {
-    pub use degvuurel::{Message, Metres, Report, RowFields, Seconds, Settings, SheetText, Station, MOST, MOST_BYTES};
+    pub use degvuurel::{Decimetres, Message, Report, RowFields, Seconds, Settings, SheetText, Station, MOST, MOST_BYTES};
 }

@@ -52,15 +52,15 @@ static void check_outputs(void) {
 
 static void check_siting(void) {
     const struct degvuurel_seconds none = {0}, six = {6}, most = {60}, too_long = {61};
-    SAME(degvuurel_warning(155, 2).distance.number, 603);
-    SAME(degvuurel_warning(126, 1).distance.number, 245);
+    SAME(degvuurel_warning(155, 2).distance.decimetres, 6028);
+    SAME(degvuurel_warning(126, 1).distance.decimetres, 2450);
     SAME(degvuurel_warning(126, 1).answer, DEGVUUREL_DONE);
-    SAME(degvuurel_advance(155, none).distance.number, 1292);
-    SAME(degvuurel_advance(155, six).distance.number, 1550);
-    SAME(degvuurel_advance(350, most).distance.number, 8750);
+    SAME(degvuurel_advance(155, none).distance.decimetres, 12917);
+    SAME(degvuurel_advance(155, six).distance.decimetres, 15500);
+    SAME(degvuurel_advance(350, most).distance.decimetres, 87500);
     SAME(degvuurel_advance(350, most).answer, DEGVUUREL_DONE);
     SAME(degvuurel_advance(350, too_long).answer, DEGVUUREL_OUTSIDE_LIMITS);
-    SAME(degvuurel_advance(350, too_long).distance.number, 0);
+    SAME(degvuurel_advance(350, too_long).distance.decimetres, 0);
     SAME(degvuurel_warning(351, 1).answer, DEGVUUREL_OUTSIDE_LIMITS);
     SAME(degvuurel_warning(350, 5).answer, DEGVUUREL_OUTSIDE_LIMITS);
 }

@@ -104,7 +104,7 @@ static void check_made(void) {
 
 void check_structs(void) {
     uint8_t track, island;
-    SAME(degvuurel_layout_1(), 1);
+    SAME(degvuurel_layout_2(), 2);
     check_refused(true);
     check_refused(false);
     for (track = 0; track < 4; track++) {

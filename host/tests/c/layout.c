@@ -55,8 +55,8 @@ static void of_what_is_shown(void) {
     FIELD(presence_shown, tracks);
     WHOLE(seconds);
     FIELD(seconds, number);
-    WHOLE(metres);
-    FIELD(metres, number);
+    WHOLE(decimetres);
+    FIELD(decimetres, decimetres);
     WHOLE(sited);
     FIELD(sited, answer);
     FIELD(sited, distance);

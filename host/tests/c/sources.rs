@@ -42,14 +42,15 @@ fn field_in_c(field: &str) -> String {
     }
 }
 
-/// The structs of the header.
+/// The structs of the header. A field that is called as its struct is, is a tuple's one field.
 pub fn structs_in_c(header: &str) -> Declared {
     let words = header_words(header);
     let declared = |part: &str| {
         let (name, rest) = part.split_once(" {\n")?;
         let (body, _) = rest.split_once("\n}")?;
-        let fields = body.split(';').filter(|field| !field.trim().is_empty());
-        Some((struct_name(name), fields.map(field_in_c).collect()))
+        let fields = body.split(';').filter(|field| !field.trim().is_empty()).map(field_in_c);
+        let of_its_name = format!("{}: ", name.trim_start_matches("degvuurel_"));
+        Some((struct_name(name), fields.map(|field| field.replacen(&of_its_name, "number: ", 1)).collect()))
     };
     words.split("\nstruct ").skip(1).filter_map(declared).collect()
 }

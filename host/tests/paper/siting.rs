@@ -1,10 +1,10 @@
-//! "Siting."
+//! "Siting", in decimetres since request 5.
 
 use super::station::{DONE, OUTSIDE_LIMITS};
 
-/// "The advance distance is 5·v·(30+m)/18 metres": speed in km/h, message time
-/// in seconds. Gives the answer and the metres.
-pub fn advance(speed: u16, message: u16) -> (u8, u16) {
+/// "50·v·(30+m)/18" decimetres, "message time m 0 to 60 s": speed in km/h,
+/// message time in seconds. Gives the answer and the decimetres.
+pub fn advance(speed: u16, message: u16) -> (u8, u32) {
     if message <= 60 {
         distance(speed, 30 + message)
     } else {
@@ -12,8 +12,8 @@ pub fn advance(speed: u16, message: u16) -> (u8, u16) {
     }
 }
 
-/// "The warning distance 5·v·7·n/18 metres."
-pub fn warning(speed: u16, tracks: u8) -> (u8, u16) {
+/// "50·v·7·n/18" decimetres, "tracks n 1 to 4".
+pub fn warning(speed: u16, tracks: u8) -> (u8, u32) {
     if (1..=4).contains(&tracks) {
         distance(speed, 7 * u16::from(tracks))
     } else {
@@ -21,13 +21,13 @@ pub fn warning(speed: u16, tracks: u8) -> (u8, u16) {
     }
 }
 
-/// The metres run in so many seconds (at most 90) at a speed in km/h, "rounded
-/// up once". "Refused siting returns distance 0."
-fn distance(speed: u16, seconds: u16) -> (u8, u16) {
+/// "Both siting answers become decimetres, rounded up once": those run in so
+/// many seconds (at most 90) at a speed in km/h. "Speed v is 1 to 350 km/h."
+/// "Refused siting returns distance 0."
+fn distance(speed: u16, seconds: u16) -> (u8, u32) {
     if !(1..=350).contains(&speed) {
         return (OUTSIDE_LIMITS, 0);
     }
-    // 5 * 350 * 90 is above 65535, though the distance is at most 8750.
-    let metres = (5 * u32::from(speed) * u32::from(seconds)).div_ceil(18);
-    (DONE, metres as u16)
+    // The product is at most 1575000, the distance 87500: both above 65535.
+    (DONE, (50 * u32::from(speed) * u32::from(seconds)).div_ceil(18))
 }

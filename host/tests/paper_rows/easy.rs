@@ -23,8 +23,47 @@ fn a_mark_is_set_once() {
 }
 
 #[test]
-fn the_advance_distance_is_rounded_once() {
-    assert_eq!(advance(155, 6), (0, 1550));
+fn the_advance_distance_is_rounded_up_once() {
+    let rows = [
+        // The parts apart: 12,917 + 2,584 = 15,501. One more than rounded down: 15,501.
+        (155, 6, 15_500),
+        // Rounded down: 88. The parts apart: 84 + 6 = 90.
+        (1, 2, 89),
+        // To the nearest: 86. The parts apart, the second rounded down: 84 + 2 = 86.
+        (1, 1, 87),
+        // Ten times the whole metres: 140, nine too many.
+        (1, 17, 131),
+        // The speed first: 97 or 98 m/s, 86,330 or 87,220; 972 or 973 dm/s, 86,508 or 86,597.
+        (350, 59, 86_528),
+        // The greatest distance that fits 16 bits.
+        (337, 40, 65_528),
+        // The least that does not: 9 is left in 16 bits.
+        (347, 38, 65_545),
+    ];
+    for (speed, message, decimetres) in rows {
+        assert_eq!(advance(speed, message), (0, decimetres), "{speed} km/h, {message} s");
+    }
+}
+
+#[test]
+fn the_warning_distance_is_rounded_up_once() {
+    let rows = [
+        // Rounded down: 38. Track by track: 2 * 20 = 40.
+        (1, 2, 39),
+        // To the nearest: 58. Track by track: 3 * 20 = 60.
+        (1, 3, 59),
+        // Track by track: 4 * 20 = 80.
+        (1, 4, 78),
+        // Ten times the whole metres: 340, nine too many.
+        (17, 1, 331),
+        // The speed first: 43 or 44 m/s, 3,010 or 3,080; 430 or 431 dm/s, 3,010 or 3,017.
+        (155, 1, 3014),
+        // The product in 16 bits, over 18 or halved over 9: 30.
+        (188, 2, 7312),
+    ];
+    for (speed, tracks, decimetres) in rows {
+        assert_eq!(warning(speed, tracks), (0, decimetres), "{speed} km/h, {tracks} tracks");
+    }
 }
 
 #[test]

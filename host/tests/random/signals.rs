@@ -5,7 +5,7 @@ use crate::paper;
 use crate::tally::{Asked, Tally};
 use crate::values::{answer, same};
 use degvuurel::{
-    advance, warning, Aspect, Condition, IslandNumber, Metres, Outputs, Report, Seconds, Settings, Station, TrackNumber,
+    advance, warning, Aspect, Condition, Decimetres, IslandNumber, Outputs, Report, Seconds, Settings, Station, TrackNumber,
 };
 
 const SETTINGS: Settings = Settings { tracks: 2, t1: 3, t2: 3, t3: 3, t4: 0, t5: 9 };
@@ -97,13 +97,13 @@ pub fn siting(tally: &mut Tally) -> Result<(), String> {
     for speed in (0..=SPEEDS).chain([700, 32_768, u16::MAX]) {
         for message in (0..=70).chain([128, 256, 316, 32_768, u16::MAX]) {
             let sited = advance(speed, Seconds(message));
-            let found = (answer(&sited), sited.map_or(0, |Metres(metres)| metres));
+            let found = (answer(&sited), sited.map_or(0, |Decimetres(decimetres)| decimetres));
             tally.count(Asked::Site, found.0);
             same(format_args!("advance distance, {speed} km/h, {message} s"), &found, &paper::advance(speed, message))?;
         }
         for tracks in 0..=u8::MAX {
             let sited = warning(speed, tracks);
-            let found = (answer(&sited), sited.map_or(0, |Metres(metres)| metres));
+            let found = (answer(&sited), sited.map_or(0, |Decimetres(decimetres)| decimetres));
             tally.count(Asked::Site, found.0);
             same(format_args!("warning distance, {speed} km/h, {tracks} tracks"), &found, &paper::warning(speed, tracks))?;
         }

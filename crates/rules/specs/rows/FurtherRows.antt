@@ -1,5 +1,5 @@
--- Rows H46 to H69, of our own: each but H64 is here because a wrong rule had passed every row before it. What is due is
--- read off the sentence that stands above each.
+-- Rows H46 to H71, of our own: each but H64, H70 and H71 is here because a wrong rule had passed every row before it.
+-- What is due is read off the sentence that stands above each.
 use Prim.Native.Nat.{ℕ}
 use mathlib.Core.Bool.{true, false}
 use mathlib.Core.List.{List, [], _∷_, _++_, map}
@@ -12,7 +12,7 @@ use Rattle.rules.specs.OfEachKind.{clock, condition, failed, freed, norm
 use Rattle.rules.specs.Printer.{fieldsOf, zonesOf}
 use Rattle.rules.specs.Register.{readOf, startAnswer}
 use Rattle.rules.specs.Reports.{withIsland}
-use Rattle.rules.specs.Siting.{advanceSited, warningSited}
+use Rattle.rules.specs.Siting.{advanceSited, roundedUp, warningSited}
 use Rattle.rules.specs.Station.{trackAt, withFault, withHold, withTrack, withTracks}
 use Rattle.rules.specs.declared.Report.{Report}
 use Rattle.rules.specs.declared.Station.{Station}
@@ -155,12 +155,14 @@ furtherRows =
     ∷ chosen 2 1 300 1 0 301 ∷ []))
     ++ each 57 8 (map making (chosen 2 65536 300 300 0 600 ∷ chosen 2 300 300 65536 0 600
     ∷ chosen 2 300 300 300 65536 600 ∷ chosen 2 300 300 300 0 65536 ∷ []))
-    -- H58: rounded up where one eighteenth of a metre is left over, and where seventeen are; not where none is
+    -- H58: rounded up wherever something is left over, be it one; not where nothing is. Of a decimetre at least two
+    -- eighteenths are left over, and at most sixteen
+    ++ rows 58 (map (λ n. roundedUp n 18) (0 ∷ 1 ∷ 17 ∷ 18 ∷ 19 ∷ [])) (0 ∷ 1 ∷ 1 ∷ 1 ∷ 2 ∷ [])
     ++ rows 58 (map (λ s. s .distance .0)
-    (advanceSited 1 (seconds 17) ∷ advanceSited 1 (seconds 13) ∷ advanceSited 18 (seconds 0) ∷ []))
-    (14 ∷ 12 ∷ 150 ∷ [])
-    ++ rows 58 (map (λ s. s .distance .0) (warningSited 17 1 ∷ warningSited 1 1 ∷ warningSited 18 1 ∷ []))
-    (34 ∷ 2 ∷ 35 ∷ [])
+    (advanceSited 1 (seconds 1) ∷ advanceSited 1 (seconds 2) ∷ advanceSited 18 (seconds 0) ∷ []))
+    (87 ∷ 89 ∷ 1500 ∷ [])
+    ++ rows 58 (map (λ s. s .distance .0) (warningSited 7 1 ∷ warningSited 2 1 ∷ warningSited 18 1 ∷ []))
+    (137 ∷ 39 ∷ 350 ∷ [])
     -- H59: a buffer that is longer than any register is started (house)
     ++ each 59 0 (startAnswer (chosen 2 300 300 300 0 600) tooMany ∷ [])
     -- H60: an entry's answer and aspect are compared whole, not by their lowest bits
@@ -199,3 +201,8 @@ furtherRows =
     ++ rows 68 (map (λ n. fieldsOf refusedToFive n .answer) (1 ∷ 2 ∷ 3 ∷ 4 ∷ 5 ∷ [])) (1 ∷ 2 ∷ 3 ∷ 4 ∷ 5 ∷ [])
     -- H69: the first entry that is wrong is named, the fifteenth too
     ++ rows 69 (said (readOf wrongFifteenth)) (13 ∷ 15 ∷ 0 ∷ [])
+    -- H70: our rounding to metres costs up to nine of them at each detector: ten times the rounded metres are 140 and
+    -- 340
+    ++ rows 70 (map (λ s. s .distance .0) (advanceSited 1 (seconds 17) ∷ warningSited 17 1 ∷ [])) (131 ∷ 331 ∷ [])
+    -- H71: rounded up once: 30 and 60 seconds apart are 12,917 + 25,834 = 38,751, and four tracks apart 4 · 20 = 80
+    ++ rows 71 (map (λ s. s .distance .0) (advanceSited 155 (seconds 60) ∷ warningSited 1 4 ∷ [])) (38750 ∷ 78 ∷ [])

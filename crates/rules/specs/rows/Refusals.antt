@@ -14,7 +14,7 @@ use Rattle.rules.specs.declared.Settings.{Settings}
 use Rattle.rules.specs.declared.Sited.{Sited}
 use Rattle.rules.specs.declared.Station.{Station}
 use Rattle.rules.specs.rows.Machine.{ours}
-use Rattle.rules.specs.rows.Row.{Row, each, row}
+use Rattle.rules.specs.rows.Row.{Row, each, rows}
 use Rattle.rules.specs.rows.Table.{c2, run, seconds}
 
 -- a report of each kind, with nothing wrong in it
@@ -132,8 +132,7 @@ refusals =
     ∷ answerAfter (occupied 0 3 ∷ []) (failed 0 3)
     ∷ answerAfter (occupied 0 3 ∷ failed 0 3 ∷ []) (restored 0 3)
     ∷ [])
-    -- R33: and siting: 1 km/h with 0 s, 350 km/h with 60 s, 1 km/h across 1 track, 350 km/h across 4
+    -- R33: and siting: 1 km/h with 0 s, 350 km/h with 60 s, 1 km/h across 1 track, 350 km/h across 4. R34: 87,500, the
+    -- greatest distance of all, is more than sixteen bits hold
     ++ each 33 0 (map (λ s. s .answer) nearest)
-    ++ (row 34 (advanceSited 1 (seconds 0) .distance .0) 9
-    ∷ row 34 (advanceSited 350 (seconds 60) .distance .0) 8750 ∷ [])
-    ++ (row 34 (warningSited 1 1 .distance .0) 2 ∷ row 34 (warningSited 350 4 .distance .0) 2723 ∷ [])
+    ++ rows 34 (map (λ s. s .distance .0) nearest) (84 ∷ 87500 ∷ 20 ∷ 27223 ∷ [])

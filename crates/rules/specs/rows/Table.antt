@@ -1,4 +1,5 @@
--- Document 01, "Rows to hold against the rules": C1 to C14, as rows of a single table.
+-- Document 01, "Rows to hold against the rules": C1 to C14, as rows of a single table. C13 and C14 are those of request
+-- 5 of document 02, in decimetres.
 use Prim.Native.Nat.{ℕ}
 use mathlib.Core.List.{List, [], _∷_}
 use Rattle.rules.specs.Heads.{headOutputs}
@@ -103,12 +104,12 @@ module _ (m : Machine) where
       ∷ row 12 (headOutputs 152 48) 0
       -- 64: 24.
       ∷ row 12 (headOutputs 152 64) 24
-      -- C13 155 km/h: two tracks 603 m;
-      ∷ row 13 (warningSited 155 2 .distance .0) 603
-      -- m = 0 1,292 m;
-      ∷ row 13 (advanceSited 155 (seconds 0) .distance .0) 1292
-      -- m = 6 1,550 m.
-      ∷ row 13 (advanceSited 155 (seconds 6) .distance .0) 1550
-      -- C14 126 km/h, one track: 245 m.
-      ∷ row 14 (warningSited 126 1 .distance .0) 245
+      -- C13 155 km/h: two tracks 6,028;
+      ∷ row 13 (warningSited 155 2 .distance .0) 6028
+      -- m = 0 12,917, and not ten times the rounded metres, 12,920;
+      ∷ row 13 (advanceSited 155 (seconds 0) .distance .0) 12917
+      -- m = 6 15,500, and not in two parts, 12,917 + 2,584 = 15,501.
+      ∷ row 13 (advanceSited 155 (seconds 6) .distance .0) 15500
+      -- C14 126 km/h, one track: 2,450.
+      ∷ row 14 (warningSited 126 1 .distance .0) 2450
       ∷ []

@@ -2,7 +2,7 @@
 -- Assumes nothing.
 use native.Mathlib.Omega.{arith}
 use lib.Dec.{leb·zero}
-use Rattle.rules.specs.Siting.{advanceMetres, advanceSited}
+use Rattle.rules.specs.Siting.{advanceDecimetres, advanceSited}
 use Rattle.siting.proofs.Within.{bounds, good, met, missed, product}
 use Rattle.siting.proofs.advance.Statement.{statement}
 use borrow.Author.Needs.{needs}
@@ -23,7 +23,7 @@ add-found c = search needs
 found-requires : tie.Need-found-requires
 found-requires c κs =
     let b = bounds (c .before .before .args .speed) 0 60 (c .before .number .result) (simp leb·zero (c .if1 .taken)) in
-    product 1750 90 tt (omega arith) (omega arith)
+    product 17500 90 tt (omega arith) (omega arith)
 
 mul-found-2 : tie.Need-mul-found-2
 mul-found-2 c = omega (arith, found-requires c tt)
@@ -35,7 +35,7 @@ returns c =
     let v = found .before .args .speed in
     let m = found .number .result in
     rw (← found .number .ensures)
-    (met (good v 0 60 m) (advanceMetres v m) (simp leb·zero (c .before .if1 .taken)) (c .found .ensures))
+    (met (good v 0 60 m) (advanceDecimetres v m) (simp leb·zero (c .before .if1 .taken)) (c .found .ensures))
 
 refused-requires : tie.Need-refused-requires
 refused-requires c κs = search needs
@@ -47,7 +47,7 @@ returns-2 c =
     let v = found .before .args .speed in
     let m = found .number .result in
     rw (← found .number .ensures)
-    (missed (good v 0 60 m) (advanceMetres v m) (simp leb·zero (c .before .if1 .left)) (c .refused .ensures))
+    (missed (good v 0 60 m) (advanceDecimetres v m) (simp leb·zero (c .before .if1 .left)) (c .refused .ensures))
 
 pub advance-spec : {M : Type 1} → statement M
 advance-spec =

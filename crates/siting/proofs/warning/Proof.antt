@@ -5,7 +5,7 @@ use mathlib.Core.Bool.{_&&_, and-assoc}
 use Prim.Native.Nat.{ℕ}
 use native.Mathlib.Omega.{arith}
 use lib.Dec.{leb}
-use Rattle.rules.specs.Siting.{speedGood, warningMetres, warningSited}
+use Rattle.rules.specs.Siting.{speedGood, warningDecimetres, warningSited}
 use Rattle.siting.proofs.Within.{bounds, good, met, missed, product}
 use Rattle.siting.proofs.warning.Statement.{statement}
 use borrow.Author.Needs.{needs}
@@ -25,7 +25,7 @@ found-requires : tie.Need-found-requires
 found-requires c κs = let v = c .before .args .speed in
     let n = c .before .args .tracks in
     let b = bounds v 1 4 n (sym (grouped v n) ∙ c .if1 .taken) in
-    product 12250 4 tt (omega arith) (omega arith)
+    product 122500 4 tt (omega arith) (omega arith)
 
 mul-found-3 : tie.Need-mul-found-3
 mul-found-3 c = omega (arith, found-requires c tt)
@@ -34,7 +34,7 @@ returns : tie.Need-returns
 unfolding warningSited
 returns c = let v = c .before .before .args .speed in
     let n = c .before .before .args .tracks in
-    met (good v 1 4 n) (warningMetres v n) (sym (grouped v n) ∙ c .before .if1 .taken) (c .found .ensures)
+    met (good v 1 4 n) (warningDecimetres v n) (sym (grouped v n) ∙ c .before .if1 .taken) (c .found .ensures)
 
 refused-requires : tie.Need-refused-requires
 refused-requires c κs = search needs
@@ -43,7 +43,7 @@ returns-2 : tie.Need-returns-2
 unfolding warningSited
 returns-2 c = let v = c .before .before .args .speed in
     let n = c .before .before .args .tracks in
-    missed (good v 1 4 n) (warningMetres v n) (sym (grouped v n) ∙ c .before .if1 .left) (c .refused .ensures)
+    missed (good v 1 4 n) (warningDecimetres v n) (sym (grouped v n) ∙ c .before .if1 .left) (c .refused .ensures)
 
 pub warning-spec : {M : Type 1} → statement M
 warning-spec =
