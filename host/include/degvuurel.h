@@ -220,8 +220,8 @@ struct degvuurel_seconds {
     uint16_t number;
 };
 
-/* A distance: 12,917 are 1291.7 m. Before layout 2 a distance was in metres, in 16 bits and a field called number: whoever read
- * that stops at the compiler. */
+/* A distance: 12,917 decimetres are 1291.7 m. The field is not called number, so that a program written for metres, which stood in
+ * a field of that name before layout 2, does not compile. */
 struct degvuurel_decimetres {
     uint32_t decimetres;
 };

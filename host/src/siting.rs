@@ -1,4 +1,4 @@
-//! How far from the crossing the detectors stand: document 01, "Siting".
+//! How far from the crossing the detectors stand: document 01, "Siting", with request 5 of document 02.
 
 use crate::answer::{Answer, Refusal};
 use crate::declared;

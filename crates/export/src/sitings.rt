@@ -1,4 +1,4 @@
-// Document 01, "Siting": how far from the crossing the detectors stand.
+// Document 01, "Siting", with request 5 of document 02: how far from the crossing the detectors stand.
 ghost use mathlib.Core.Path.{_≡_};
 ghost use Rattle.rules.specs.Siting.{advanceSited, warningSited};
 use rules::Seconds;

@@ -1,4 +1,5 @@
-/* What stations and heads show, and siting: the rows C1 to C14 of document 01. */
+/* What stations and heads show, and siting: the rows C1 to C14 of document 01, the last two as
+ * request 5 of document 02 has them. */
 #include "checks.h"
 
 /* The settings of document 01's rows. */

@@ -42,7 +42,7 @@ fn field_in_c(field: &str) -> String {
     }
 }
 
-/// The structs of the header. A field that is called as its struct is, is a tuple's one field.
+/// The structs of the header. A tuple's one field is called `number`, or has its struct's name.
 pub fn structs_in_c(header: &str) -> Declared {
     let words = header_words(header);
     let declared = |part: &str| {
