@@ -220,8 +220,8 @@ struct degvuurel_seconds {
     uint16_t number;
 };
 
-/* A distance: 12,917 decimetres are 1291.7 m. The field is not called number, so that a program written for metres, which stood in
- * a field of that name before layout 2, does not compile. */
+/* A distance: 12,917 decimetres are 1291.7 m, and in whole metres that are not too near (12917 + 9) / 10. The field is not called
+ * number, where metres stood before layout 2, so that a program that reads those does not compile. */
 struct degvuurel_decimetres {
     uint32_t decimetres;
 };
@@ -321,8 +321,8 @@ DEGVUUREL_SIZE(recorded, 24);
 DEGVUUREL_SIZE(line, 8);
 #undef DEGVUUREL_SIZE
 
-/* The layout that this header is of: 2. Whoever includes the header names the function, so that an archive of another layout does
- * not link. */
+/* Its name ends in the number of the layout that this header is of. Whoever includes the header names it, so that an archive of
+ * another layout does not link. */
 uint8_t degvuurel_layout_2(void);
 #if defined(__has_attribute)
 #if __has_attribute(retain)

@@ -5,15 +5,38 @@ use crate::declared;
 use crate::structs::{Decimetres, Seconds};
 use std::fmt;
 
+// Both are shown as numbers are, at the right of a width, and never cut: as a text `1291.7 m` would be `1` by `{:.1}`.
+
 impl fmt::Display for Seconds {
     fn fmt(&self, f: &mut fmt::Formatter<'_>) -> fmt::Result {
-        f.pad(&format!("{} s", self.0))
+        f.pad_integral(true, "", &format!("{} s", self.0))
     }
 }
 
+/// In metres with one decimal.
+///
+/// ```
+/// use degvuurel::Decimetres;
+///
+/// assert_eq!([0, 6, 15500, 87500].map(|number| Decimetres::of(number).to_string()), ["0.0 m", "0.6 m", "1550.0 m", "8750.0 m"]);
+/// ```
 impl fmt::Display for Decimetres {
     fn fmt(&self, f: &mut fmt::Formatter<'_>) -> fmt::Result {
-        f.pad(&format!("{}.{} m", self.0 / 10, self.0 % 10))
+        f.pad_integral(true, "", &format!("{}.{} m", self.0 / 10, self.0 % 10))
+    }
+}
+
+impl Decimetres {
+    /// So many decimetres.
+    #[must_use]
+    pub const fn of(number: u32) -> Decimetres {
+        Decimetres(number)
+    }
+
+    /// How many decimetres they are. Whole metres that are not too near are `number().div_ceil(10)`.
+    #[must_use]
+    pub const fn number(self) -> u32 {
+        self.0
     }
 }
 
@@ -27,7 +50,7 @@ fn found(sited: declared::Sited) -> Result<Decimetres, Refusal> {
 /// use degvuurel::{advance, Decimetres, Seconds};
 ///
 /// let distance = advance(155, Seconds(0)).unwrap();
-/// assert_eq!(distance, Decimetres(12917));
+/// assert_eq!(distance, Decimetres::of(12917));
 /// assert_eq!(distance.to_string(), "1291.7 m");
 /// assert_eq!(advance(155, Seconds(61)).unwrap_err().number(), 8);
 /// ```
@@ -45,7 +68,7 @@ pub fn advance(speed: u16, message: Seconds) -> Result<Decimetres, Refusal> {
 /// ```
 /// use degvuurel::{warning, Decimetres};
 ///
-/// assert_eq!(warning(126, 1), Ok(Decimetres(2450)));
+/// assert_eq!(warning(126, 1), Ok(Decimetres::of(2450)));
 /// ```
 ///
 /// # Errors

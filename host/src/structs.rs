@@ -166,10 +166,14 @@ pub struct Report {
 #[repr(C)]
 pub struct Seconds(pub u16);
 
-/// A distance, which is shown in metres: `Decimetres(12917)` as `1291.7 m`.
+/// A distance, which is shown in metres. It has no field to read, so that a program written for metres does not compile:
+///
+/// ```compile_fail,E0616
+/// let metres = degvuurel::warning(126, 1).unwrap().0;
+/// ```
 #[derive(Clone, Copy, Debug, PartialEq, Eq, Hash, PartialOrd, Ord)]
 #[repr(C)]
-pub struct Decimetres(pub u32);
+pub struct Decimetres(pub(crate) u32);
 
 /// What a row of a sheet shows.
 #[derive(Clone, Copy, Debug, PartialEq, Eq, Hash)]

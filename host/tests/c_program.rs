@@ -108,6 +108,15 @@ fn another_machine_is_refused_in_a_clear_line() {
     }
 }
 
+/// A distance in decimetres is not taken for one in metres.
+#[test]
+fn a_program_for_metres_does_not_compile() {
+    for (compiler, language) in LANGUAGES {
+        let said = refused(compiler, language, &["metres.c"]);
+        assert!(said.contains("'number'") || said.contains("‘number’"), "{compiler}: {said}");
+    }
+}
+
 /// A header of another layout, or an archive of an older one, names a symbol that is not there.
 #[test]
 fn another_layout_does_not_link() {

@@ -137,12 +137,12 @@ fn siting_at_its_limits() {
     for (speed, message, answer, decimetres) in advances {
         // SAFETY: any numbers are taken.
         let sited = unsafe { declared::degvuurel_advance(speed, Seconds(message)) };
-        assert_eq!((sited.answer, sited.distance.0), (answer, decimetres), "{speed} km/h, {message} s");
+        assert_eq!((sited.answer, sited.distance.number()), (answer, decimetres), "{speed} km/h, {message} s");
     }
     let warnings = [(1, 1, 0, 20), (350, 4, 0, 27_223), (0, 2, 8, 0), (351, 2, 8, 0), (155, 0, 8, 0), (155, 5, 8, 0)];
     for (speed, tracks, answer, decimetres) in warnings {
         // SAFETY: any numbers are taken.
         let sited = unsafe { declared::degvuurel_warning(speed, tracks) };
-        assert_eq!((sited.answer, sited.distance.0), (answer, decimetres), "{speed} km/h, {tracks} tracks");
+        assert_eq!((sited.answer, sited.distance.number()), (answer, decimetres), "{speed} km/h, {tracks} tracks");
     }
 }

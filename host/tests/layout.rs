@@ -47,7 +47,9 @@ fn layout_in_rust() -> String {
     layout!(lines, "zones_shown", Zones { digits });
     layout!(lines, "presence_shown", Presence { tracks });
     layout!(lines, "seconds", Seconds { 0 as "number" });
-    layout!(lines, "decimetres", Decimetres { 0 as "decimetres" });
+    // Its one field is not for others to name, and begins where the struct does.
+    let size = size_of::<Decimetres>();
+    writeln!(lines, "decimetres {size}\ndecimetres.decimetres 0 {size}").unwrap();
     layout!(lines, "sited", Sited { answer, distance });
     layout!(lines, "reading", Reading { answer, entry, count, station });
     layout!(lines, "entry_place", Entry { answer, at, length });
@@ -65,6 +67,11 @@ fn the_header_lays_structs_out_as_rust_does() {
     for (compiler, language) in LANGUAGES {
         let program = compiled(&format!("layout_{compiler}"), compiler, language, &["layout.c"]);
         assert_eq!(written_by(&program), layout_in_rust(), "by {compiler}");
+    }
+    let header = text_of("include/degvuurel.h");
+    for line in layout_in_rust().lines().filter(|line| !line.contains('.')) {
+        let looked_at = format!("\nDEGVUUREL_SIZE({});", line.replace(' ', ", "));
+        assert!(header.contains(&looked_at), "the header does not look at the size of {line}");
     }
 }
 

@@ -139,7 +139,7 @@ fn what_is_shown_is_padded() {
     let settings = Settings { tracks: 1, t1: 1, t2: 1, t3: 1, t4: 0, t5: 2 };
     let message = Message::of(7, &Station::make(settings).expect("the settings are good"));
     let misread = record(b"x").expect_err("it is not understood");
-    let shown: [&dyn Display; 16] = [
+    let shown: [&dyn Display; 14] = [
         &Answer::Done,
         &Answer::AlreadySo.done().expect_err("it is not done"),
         &Aspect::Clearing,
@@ -153,8 +153,6 @@ fn what_is_shown_is_padded() {
         &NotAReport::Setting,
         &NotSettings::Report(8),
         &settings,
-        &Seconds(6),
-        &Decimetres(6),
         &message,
     ];
     for words in shown {
@@ -165,5 +163,12 @@ fn what_is_shown_is_padded() {
     let numbers: [&dyn Display; 4] = [&TrackNumber(1), &IslandNumber(1), &HeadNumber(1), &Condition::GREEN_FAILED];
     for number in numbers {
         assert_eq!(format!("{number:>3}"), "  1");
+    }
+    let measured: [(&dyn Display, &str); 2] = [(&Seconds(60), "60 s"), (&Decimetres::of(12_917), "1291.7 m")];
+    for (number, plain) in measured {
+        assert_eq!(
+            format!("{number}|{number:.1}|{number:12}|{number:<12.3}|"),
+            format!("{plain}|{plain}|{plain:>12}|{plain:<12}|")
+        );
     }
 }

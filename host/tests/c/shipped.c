@@ -206,6 +206,23 @@ static void record(const uint8_t *bytes, size_t length) {
     give(touched, 8);
 }
 
+static void give_sited(struct degvuurel_sited sited) {
+    give(sited.answer, 1);
+    give(sited.distance.decimetres, 4);
+}
+
+/* All distances of a speed, to a step beyond the limits. */
+static void site(uint16_t speed) {
+    struct degvuurel_seconds message;
+    uint8_t tracks;
+    for (message.number = 0; message.number <= 61; message.number++) {
+        give_sited(degvuurel_advance(speed, message));
+    }
+    for (tracks = 0; tracks <= 5; tracks++) {
+        give_sited(degvuurel_warning(speed, tracks));
+    }
+}
+
 /* A letter that is none is answered by nothing, which no call expects. */
 static void answer(void) {
     const uint8_t letter = (uint8_t)take(1);
@@ -224,6 +241,7 @@ static void answer(void) {
     case 'b': give_reading(degvuurel_back(bytes, length, row)); break;
     case 'p': print(bytes, length); break;
     case 't': record(bytes, length); break;
+    case 'd': site((uint16_t)row); break;
     }
 }
 

@@ -98,7 +98,7 @@ pub fn structs_in_source(source: &str) -> Declared {
         let (name, rest) = part.split_once([' ', '('])?;
         let fields = match rest.strip_prefix('{') {
             Some(body) => body.split('}').next()?.split(',').filter_map(field).collect(),
-            None => vec![format!("number: {}", rest.split(')').next()?.trim_start_matches("pub "))],
+            None => vec![format!("number: {}", rest.split(");").next()?.split_whitespace().last()?)],
         };
         Some((name.to_string(), fields))
     };

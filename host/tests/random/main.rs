@@ -101,7 +101,10 @@ fn main() -> ExitCode {
         runs::run("damaged registers", seed, others / 2, damaged::try_case),
         runs::run("long damaged registers", seed, LONG / 2, damaged::try_long),
     ];
-    let of_stations = [runs::run("stations", seed, others * 2, stations::try_case), signals()];
+    let signals = whole("heads, siting and lines of refusals", |tally| {
+        signals::heads(tally).and_then(|()| signals::siting(tally)).and_then(|()| lines::of_refusals())
+    });
+    let of_stations = [runs::run("stations", seed, others * 2, stations::try_case), signals];
     let texts = screens::trial(screens::read, TEXTS * others / REGISTERS, seed);
     let of_screens = [texts.agreed(), runs::run("messages", seed, MESSAGES * others / REGISTERS, screens::try_writing)];
     let of_plans = [
@@ -113,6 +116,7 @@ fn main() -> ExitCode {
         runs::run("shipped registers", seed, SHIPPED, |chance, bench| registers::try_case(chance, bench.with_shipped())),
         runs::run("shipped damaged registers", seed, SHIPPED, |chance, bench| damaged::try_case(chance, bench.with_shipped())),
         runs::run("shipped planner's texts", seed, SHIPPED_PLANS, |chance, bench| plans::try_case(chance, bench.with_shipped())),
+        whole("shipped siting", signals::shipped_siting),
     ];
     let least = least_of(number);
     let registers = summed("registers and damaged ones", &of_registers);
@@ -153,10 +157,10 @@ fn summed(title: &str, parts: &[Option<Tally>]) -> Tally {
 }
 
 /// What is tried whole needs no seed.
-fn signals() -> Option<Tally> {
-    println!("heads, siting and lines of refusals: all of them");
+fn whole(part: &str, try_all: impl FnOnce(&mut Tally) -> Result<(), String>) -> Option<Tally> {
+    println!("{part}: all of them");
     let mut tally = Tally::default();
-    match signals::heads(&mut tally).and_then(|()| signals::siting(&mut tally)).and_then(|()| lines::of_refusals()) {
+    match try_all(&mut tally) {
         Ok(()) => Some(tally),
         Err(difference) => {
             println!("DIFFERENCE: {difference}");

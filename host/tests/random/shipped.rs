@@ -19,13 +19,14 @@ pub const FORWARD: u8 = b'f';
 pub const BACK: u8 = b'b';
 pub const PRINT: u8 = b'p';
 pub const RECORD: u8 = b't';
+pub const SITE: u8 = b'd';
 
 /// A call or an answer as the program has it, field after field and numbers low byte first.
 #[derive(Default)]
 pub struct Fields(Vec<u8>);
 
 impl Fields {
-    /// A call: its letter, a row or an entry, and the register or the text.
+    /// A call: its letter, a row, an entry or a speed, and the register or the text.
     pub fn call(letter: u8, row: usize, register: &[u8]) -> Fields {
         Fields(vec![letter]).number(row).number(register.len()).bytes(register)
     }

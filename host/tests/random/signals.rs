@@ -2,6 +2,7 @@
 
 use crate::filling::shown_by_both;
 use crate::paper;
+use crate::shipped::{Fields, Shipped, SITE};
 use crate::tally::{Asked, Tally};
 use crate::values::{answer, same};
 use degvuurel::{
@@ -94,19 +95,37 @@ fn leading_to_aspects() -> [(Aspect, Vec<Report>); 6] {
 
 /// Every speed, message time and number of tracks within the limits, and beyond them.
 pub fn siting(tally: &mut Tally) -> Result<(), String> {
+    let mut given = 0;
     for speed in (0..=SPEEDS).chain([700, 32_768, u16::MAX]) {
         for message in (0..=70).chain([128, 256, 316, 32_768, u16::MAX]) {
             let sited = advance(speed, Seconds(message));
-            let found = (answer(&sited), sited.map_or(0, |Decimetres(decimetres)| decimetres));
+            let found = (answer(&sited), sited.map_or(0, Decimetres::number));
             tally.count(Asked::Site, found.0);
+            given += u32::from(found.0 == 0);
             same(format_args!("advance distance, {speed} km/h, {message} s"), &found, &paper::advance(speed, message))?;
         }
         for tracks in 0..=u8::MAX {
             let sited = warning(speed, tracks);
-            let found = (answer(&sited), sited.map_or(0, |Decimetres(decimetres)| decimetres));
+            let found = (answer(&sited), sited.map_or(0, Decimetres::number));
             tally.count(Asked::Site, found.0);
+            given += u32::from(found.0 == 0);
             same(format_args!("warning distance, {speed} km/h, {tracks} tracks"), &found, &paper::warning(speed, tracks))?;
         }
+    }
+    // "Speed v is 1 to 350 km/h, message time m 0 to 60 s, tracks n 1 to 4."
+    same(format_args!("how many distances are given"), &given, &(350 * 61 + 350 * 4))
+}
+
+/// The same through the archive as it is shipped, to a step beyond the limits. One call asks for all distances of a speed.
+pub fn shipped_siting(tally: &mut Tally) -> Result<(), String> {
+    let mut shipped = Shipped::start();
+    for speed in 0..=351 {
+        let distances =
+            (0..=61).map(|message| paper::advance(speed, message)).chain((0..=5).map(|tracks| paper::warning(speed, tracks)));
+        let expected =
+            distances.fold(Fields::default(), |fields, (answer, decimetres)| fields.byte(answer).bytes(&decimetres.to_le_bytes()));
+        tally.shipped += 1;
+        shipped.answers(format_args!("distances of {speed} km/h"), &Fields::call(SITE, usize::from(speed), &[]), &expected)?;
     }
     Ok(())
 }
