@@ -1,6 +1,6 @@
 -- What both distances rest on: the limits tested bound the numerator, and they alone decide the answer.
 use mathlib.Core.Path.{_≡_, sym, ap, _∙_}
-use mathlib.Core.Bool.{Bool, true, false, not, _&&_, and-eq-true-iff}
+use mathlib.Core.Bool.{Bool, true, not, _&&_, and-eq-true-iff}
 use Prim.Native.Nat.{ℕ, _*_, _≤_}
 use native.Mathlib.Nat.{le-trans, mul-le-mul}
 use lib.Dec.{T, leb, lit≤}
@@ -29,10 +29,6 @@ product x y t p q = le-trans (mul-le-mul p q) (lit≤ t)
 abbrev answered : Bool → ℕ → Sited
 answered g n = sited (outsideLimits if not g then done) n
 
-pub met : (g : Bool) (n : ℕ) {r : Sited} → g ≡ true → r ≡ sited done n → r ≡ answered g n
-unfolding _if_then_
-met g n t e = e ∙ sym (ap (λ (b : Bool). answered b n) t)
-
-pub missed : (g : Bool) (n : ℕ) {r : Sited} → g ≡ false → r ≡ sited outsideLimits 0 → r ≡ answered g n
-unfolding _if_then_
-missed g n t e = e ∙ sym (ap (λ (b : Bool). answered b n) t)
+-- whatever the limits are found to be
+pub decided : (g b : Bool) (n : ℕ) {r : Sited} → g ≡ b → r ≡ answered b n → r ≡ answered g n
+decided g b n t e = e ∙ sym (ap (λ (h : Bool). answered h n) t)

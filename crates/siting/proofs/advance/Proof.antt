@@ -1,9 +1,11 @@
 -- `advance`: the limits tested are the definition's, so they bound the numerator and decide the answer.
 -- Assumes nothing.
+use mathlib.Core.Bool.{true, false}
 use native.Mathlib.Omega.{arith}
 use lib.Dec.{leb·zero}
 use Rattle.rules.specs.Siting.{advanceDecimetres, advanceSited}
-use Rattle.siting.proofs.Within.{bounds, good, met, missed, product}
+use Rattle.rules.specs.Words.{_if_then_}
+use Rattle.siting.proofs.Within.{bounds, decided, good, product}
 use Rattle.siting.proofs.advance.Statement.{statement}
 use borrow.Author.Needs.{needs}
 use Rattle.siting.proofs.advance.Tie as tie
@@ -29,25 +31,25 @@ mul-found-2 : tie.Need-mul-found-2
 mul-found-2 c = omega (arith, found-requires c tt)
 
 returns : tie.Need-returns
-unfolding advanceSited
+unfolding advanceSited _if_then_
 returns c =
     let found = c .before .before in
     let v = found .before .args .speed in
     let m = found .number .result in
     rw (← found .number .ensures)
-    (met (good v 0 60 m) (advanceDecimetres v m) (simp leb·zero (c .before .if1 .taken)) (c .found .ensures))
+    (decided (good v 0 60 m) true (advanceDecimetres v m) (simp leb·zero (c .before .if1 .taken)) (c .found .ensures))
 
 refused-requires : tie.Need-refused-requires
 refused-requires c κs = search needs
 
 returns-2 : tie.Need-returns-2
-unfolding advanceSited
+unfolding advanceSited _if_then_
 returns-2 c =
     let found = c .before .before in
     let v = found .before .args .speed in
     let m = found .number .result in
     rw (← found .number .ensures)
-    (missed (good v 0 60 m) (advanceDecimetres v m) (simp leb·zero (c .before .if1 .left)) (c .refused .ensures))
+    (decided (good v 0 60 m) false (advanceDecimetres v m) (simp leb·zero (c .before .if1 .left)) (c .refused .ensures))
 
 pub advance-spec : {M : Type 1} → statement M
 advance-spec =

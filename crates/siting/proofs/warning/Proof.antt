@@ -1,12 +1,13 @@
 -- `warning`: the limits tested are the definition's, so they bound the numerator and decide the answer.
 -- Assumes nothing.
 use mathlib.Core.Path.{_≡_, sym, _∙_}
-use mathlib.Core.Bool.{_&&_, and-assoc}
+use mathlib.Core.Bool.{true, false, _&&_, and-assoc}
 use Prim.Native.Nat.{ℕ}
 use native.Mathlib.Omega.{arith}
 use lib.Dec.{leb}
 use Rattle.rules.specs.Siting.{speedGood, warningDecimetres, warningSited}
-use Rattle.siting.proofs.Within.{bounds, good, met, missed, product}
+use Rattle.rules.specs.Words.{_if_then_}
+use Rattle.siting.proofs.Within.{bounds, decided, good, product}
 use Rattle.siting.proofs.warning.Statement.{statement}
 use borrow.Author.Needs.{needs}
 use Rattle.siting.proofs.warning.Tie as tie
@@ -31,19 +32,21 @@ mul-found-3 : tie.Need-mul-found-3
 mul-found-3 c = omega (arith, found-requires c tt)
 
 returns : tie.Need-returns
-unfolding warningSited
+unfolding warningSited _if_then_
 returns c = let v = c .before .before .args .speed in
     let n = c .before .before .args .tracks in
-    met (good v 1 4 n) (warningDecimetres v n) (sym (grouped v n) ∙ c .before .if1 .taken) (c .found .ensures)
+    decided (good v 1 4 n) true (warningDecimetres v n)
+    (sym (grouped v n) ∙ c .before .if1 .taken) (c .found .ensures)
 
 refused-requires : tie.Need-refused-requires
 refused-requires c κs = search needs
 
 returns-2 : tie.Need-returns-2
-unfolding warningSited
+unfolding warningSited _if_then_
 returns-2 c = let v = c .before .before .args .speed in
     let n = c .before .before .args .tracks in
-    missed (good v 1 4 n) (warningDecimetres v n) (sym (grouped v n) ∙ c .before .if1 .left) (c .refused .ensures)
+    decided (good v 1 4 n) false (warningDecimetres v n)
+    (sym (grouped v n) ∙ c .before .if1 .left) (c .refused .ensures)
 
 pub warning-spec : {M : Type 1} → statement M
 warning-spec =
