@@ -1,4 +1,6 @@
 // The clock: what single ticks do to a station, any number of them at once.
+#![tactic(auto)]
+
 mod ageing;
 mod holding;
 mod numbers;

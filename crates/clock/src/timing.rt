@@ -8,7 +8,7 @@ use rules::{Settings, Track};
 
 // In ticks from now: until when a track has a fresh approaching island, from when one track counts for
 // the greatest risk, from when two do, and from when the fault latches.
-#[derive(Drop)]
+#[derive(Clone, Copy)]
 pub(crate) struct Timetable {
     pub fresh: u32,
     pub first: u32,

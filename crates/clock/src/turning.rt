@@ -8,7 +8,7 @@ use rules::{Island, Settings, Track};
 
 // When a track's signs turn, in ticks from now: it has a fresh approaching island until the first,
 // counts for the greatest risk from the second on, and latches the fault from the third on.
-#[derive(Drop)]
+#[derive(Clone, Copy)]
 pub(crate) struct Turns {
     pub fresh: u32,
     pub present: u32,

@@ -1,4 +1,6 @@
 // Numbers that are typed: words of decimal digits.
+#![tactic(auto)]
+
 ghost use Rattle.std.specs.Prelude.{◌≡◌};
 ghost use Rattle.rules.specs.Screen.{or_else, our_number};
 ghost use Rattle.rules_json.specs.Grammar.{digit};

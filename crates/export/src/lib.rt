@@ -3,6 +3,8 @@
 //
 // A slice is a pointer and a length, a struct goes by value, and an array as a result stands in a
 // struct. Whoever declares them elsewhere, as host/ does, repeats each struct field by field.
+#![tactic(auto)]
+
 mod layout;
 mod plans;
 mod registers;

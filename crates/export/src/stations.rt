@@ -11,21 +11,21 @@ use rules::{HeadOutputs, Made, Report, Settings, Station, Taken, TrackPresence, 
 
 // What each head shows: nine output bits.
 #[repr(C)]
-#[derive(Drop)]
+#[derive(Clone, Copy)]
 pub struct Heads {
     pub outputs: HeadOutputs,
 }
 
 // 0 where any track occupies the island, else 1, in island order.
 #[repr(C)]
-#[derive(Drop)]
+#[derive(Clone, Copy)]
 pub struct Zones {
     pub digits: ZoneDigits,
 }
 
 // Whether a track counts for the greatest risk.
 #[repr(C)]
-#[derive(Drop)]
+#[derive(Clone, Copy)]
 pub struct Presence {
     pub tracks: TrackPresence,
 }

@@ -1,5 +1,7 @@
 // The islands of a track: their marks, and what a track shows of them. And what a station and its clock
 // both ask: whether the settings are within limits, how many tracks there are, what the hold is set to.
+#![tactic(auto)]
+
 mod holding;
 mod limits;
 mod marks;
@@ -13,7 +15,7 @@ pub use shown::{signs_of, some_failed, some_occupied};
 // What is asked of a track: a fresh approaching island; an island that counts for the greatest
 // risk; a fresh approaching warning or crossing island; a fresh approaching advance island; a held
 // island.
-#[derive(Drop)]
+#[derive(Clone, Copy)]
 pub struct Signs {
     pub fresh: bool,
     pub present: bool,

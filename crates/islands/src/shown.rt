@@ -7,7 +7,7 @@ use crate::Signs;
 use rules::{Island, Settings, Track};
 
 // What one island adds to its track's signs.
-#[derive(Drop)]
+#[derive(Clone, Copy)]
 pub(crate) struct Seen {
     pub fresh: bool,
     pub held: bool,

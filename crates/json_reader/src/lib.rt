@@ -2,6 +2,8 @@
 // text and return the place past what they read there, or the same place where there is none; octet
 // tells what stands at one. Nothing is asked of the place, and no tree is built.
 // What there is to read is told by the crate rules_json.
+#![tactic(auto)]
+
 mod characters;
 mod numbers;
 mod octets;

@@ -4,7 +4,7 @@ ghost use Rattle.json_reader.specs.Blanks.{PastBlanks};
 ghost use Rattle.rules_json.specs.Reader.{at, blanks as blanksAtHead, digits as digitsAtHead};
 
 // An octet and its place.
-#[derive(Drop)]
+#[derive(Clone, Copy)]
 pub(crate) struct Next {
     pub place: usize,
     pub octet: u8,

@@ -1,5 +1,7 @@
 // Reads a register from standard input, and writes its sheet, or the one line of a register that
 // cannot be read, to standard output. What is written is all in sheet::print, and proved there.
+#![tactic(auto)]
+
 use libc::STDIN_FILENO;
 
 fn main() {

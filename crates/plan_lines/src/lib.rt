@@ -1,4 +1,6 @@
 // What a line of a planner's text says. What it means is told by rules_plan.
+#![tactic(auto)]
+
 mod lines;
 mod names;
 mod numbers;

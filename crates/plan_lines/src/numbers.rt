@@ -21,7 +21,7 @@ pub(crate) const SIXTEEN_BITS: u32 = 65535;
 const ABSENT: u32 = 65537;
 
 // A word as a number, and the place past it.
-#[derive(Drop)]
+#[derive(Clone, Copy)]
 pub(crate) struct Number {
     pub(crate) number: u32,
     pub(crate) past: usize,

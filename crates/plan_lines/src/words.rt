@@ -21,7 +21,7 @@ pub(crate) fn before_comment(line: &[u8]) -> usize
 }
 
 // Where a word stands.
-#[derive(Drop)]
+#[derive(Clone, Copy)]
 pub(crate) struct Span {
     pub(crate) start: usize,
     pub(crate) past: usize,

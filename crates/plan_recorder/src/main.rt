@@ -1,6 +1,8 @@
 // Reads a planner's text from standard input, and writes the register that it means to standard output.
 // To standard error it tells which reports were refused, or what is wrong with the text, of which then
 // nothing is recorded. What a text means is all in recorder::record, and proved there.
+#![tactic(auto)]
+
 ghost use Rattle.std.specs.Prelude.{◌≤◌};
 
 mod misread;

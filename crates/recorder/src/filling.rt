@@ -41,7 +41,7 @@ pub(crate) fn fill(
 }
 
 // How many reports there are after a line, and the station then.
-#[derive(Drop)]
+#[derive(Clone, Copy)]
 struct Entered {
     count: usize,
     station: Station,

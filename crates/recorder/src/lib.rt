@@ -1,4 +1,6 @@
 // The recorder: a planner's text goes in, a register comes out. What a text means is told by rules_plan.
+#![tactic(auto)]
+
 mod checking;
 mod filling;
 mod parting;

@@ -26,7 +26,7 @@ fn next_line(text: &[u8], end: usize) -> usize
 }
 
 // What a line says, and where the next one begins.
-#[derive(Drop)]
+#[derive(Clone, Copy)]
 pub(crate) struct Parted {
     pub(crate) found: Line,
     pub(crate) past: usize,

@@ -1,5 +1,7 @@
 // Reads a register from standard input, and shows rows of it as they were: those that its words name
 // after the first, in their order. A word that is no number up to 65535 names a row that no register has.
+#![tactic(auto)]
+
 mod reports;
 mod showing;
 mod words;
@@ -34,7 +36,7 @@ fn rows(register: &[u8]) {
     verb::ended(written, if refused { verb::REFUSED } else { verb::DONE });
 }
 
-#[derive(Drop)]
+#[derive(Clone, Copy)]
 struct Shown {
     refused: bool,
     written: bool,

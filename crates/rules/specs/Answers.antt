@@ -1,5 +1,5 @@
 -- Document 01, "The numbers it answers": 0 to 8, to a report, in their order.
-use Rattle.std.specs.Prelude.{ℕ, Bool, true, false, cond, not, ◌&&◌, ◌||◌, eqb, leb, ltb}
+use Rattle.std.specs.Prelude.{ℕ, Bool, false, cond, not, ◌&&◌, ◌||◌, eqb, leb, ltb}
 use Rattle.rules.specs.Numbers.{already_so, bad_field, done, no_such_head, no_such_island}
 use Rattle.rules.specs.Numbers.{no_such_kind, no_such_track, not_clear}
 use Rattle.rules.specs.Kinds.{Kind, clock, detector_failed, detector_restored, fields, head_condition}

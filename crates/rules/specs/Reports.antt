@@ -1,5 +1,5 @@
 -- Document 01, "Reports": marks, the clock, and what an accepted report does.
-use Rattle.std.specs.Prelude.{ℕ, zero, suc, ◌+◌, ◌-◌, min, Bool, true, false, cond, not, ◌&&◌, ◌||◌, [], ◌∷◌, ◌++◌, map, eqb, leb, ltb, get_or, set}
+use Rattle.std.specs.Prelude.{ℕ, zero, suc, ◌+◌, ◌-◌, min, Bool, true, false, cond, not, ◌&&◌, ◌||◌, ◌++◌, map, eqb, leb, ltb, get_or, set}
 use Rattle.rules.specs.Aspect.{greatest_risk}
 use Rattle.rules.specs.Kinds.{Kind, clock, detector_failed, detector_restored, head_condition}
 use Rattle.rules.specs.Kinds.{island_free, island_occupied, no_kind, normalise}

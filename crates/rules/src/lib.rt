@@ -1,13 +1,15 @@
 // The paper: what document 01 speaks of, and its numbers by name, in its order. What it says of them
 // is in specs/. Nothing runs here but the conversions of siting's numbers, since they have to stand
 // beside their structs.
+#![tactic(auto)]
+
 ghost use Rattle.std.specs.Prelude.{◌≡◌};
 
 // ---- "What the station is"
 
 // The number of tracks, and the timers in ticks. A tick is a tenth of a second.
 #[repr(C)]
-#[derive(Drop)]
+#[derive(Clone, Copy)]
 pub struct Settings {
     pub tracks: u8,
     pub t1: u16,
@@ -19,7 +21,7 @@ pub struct Settings {
 
 // An island is free, or occupied with a mark and an age in ticks. Its detector may have failed.
 #[repr(C)]
-#[derive(Drop)]
+#[derive(Clone, Copy)]
 pub struct Island {
     pub occupied: bool,
     pub leaving: bool,
@@ -29,14 +31,14 @@ pub struct Island {
 
 // Advance side 1, warning side 1, crossing, warning side 2, advance side 2.
 #[repr(C)]
-#[derive(Drop)]
+#[derive(Clone, Copy)]
 pub struct Track {
     pub islands: [Island; 5],
 }
 
 // Up to four tracks, of which the settings' number count. The hold is what is left of T4, in ticks.
 #[repr(C)]
-#[derive(Drop)]
+#[derive(Clone, Copy)]
 pub struct Station {
     pub settings: Settings,
     pub tracks: [Track; 4],
@@ -47,7 +49,7 @@ pub struct Station {
 
 // The answer to settings, and the station made of them.
 #[repr(C)]
-#[derive(Drop)]
+#[derive(Clone, Copy)]
 pub struct Made {
     pub answer: u8,
     pub station: Station,
@@ -57,7 +59,7 @@ pub struct Made {
 
 // Six bytes: the value has sixteen bits, low byte first.
 #[repr(C)]
-#[derive(Drop)]
+#[derive(Clone, Copy)]
 pub struct Report {
     pub kind: u8,
     pub a: u8,
@@ -83,7 +85,7 @@ pub const NORMALISE: u8 = 7;
 
 // The answer to a report, and the station after it.
 #[repr(C)]
-#[derive(Drop)]
+#[derive(Clone, Copy)]
 pub struct Taken {
     pub answer: u8,
     pub station: Station,
@@ -166,17 +168,17 @@ pub type HeadOutputs = [u16; 2];
 
 // A time. No distance is ever taken for one: the two are types of their own.
 #[repr(C)]
-#[derive(Drop)]
+#[derive(Clone, Copy)]
 pub struct Seconds(pub u16);
 
 // A distance.
 #[repr(C)]
-#[derive(Drop)]
+#[derive(Clone, Copy)]
 pub struct Decimetres(pub u32);
 
 // An answer, 0 or 8, and the distance, which is 0 where the answer is not.
 #[repr(C)]
-#[derive(Drop)]
+#[derive(Clone, Copy)]
 pub struct Sited {
     pub answer: u8,
     pub distance: Decimetres,
@@ -222,7 +224,7 @@ pub const MOST: usize = 8190;
 // What reading or stepping returns: its answer, the entry that it names, how many entries were
 // read, and the station after them.
 #[repr(C)]
-#[derive(Drop)]
+#[derive(Clone, Copy)]
 pub struct Reading {
     pub answer: u8,
     pub entry: usize,
@@ -275,7 +277,7 @@ pub type ZoneDigits = [u8; 5];
 // What a row of a sheet shows: its entry's number, the five zone digits in island order, the nine
 // output bits, VF first, and the answer.
 #[repr(C)]
-#[derive(Drop)]
+#[derive(Clone, Copy)]
 pub struct RowFields {
     pub entry: u64,
     pub zones: ZoneDigits,
@@ -290,7 +292,7 @@ pub type TrackDigits = [u8; 20];
 
 // What the information desk is told.
 #[repr(C)]
-#[derive(Drop)]
+#[derive(Clone, Copy)]
 pub struct Message {
     pub station: u16,
     pub aspect: u8,
@@ -301,7 +303,7 @@ pub struct Message {
 // What reading a text gives: an answer, 0, 15 or 16, and the message, which is zeros and no tracks
 // where the answer is not 0.
 #[repr(C)]
-#[derive(Drop)]
+#[derive(Clone, Copy)]
 pub struct Received {
     pub answer: u8,
     pub message: Message,
@@ -310,7 +312,7 @@ pub struct Received {
 // What writing a message gives: an answer, 0, 16 or 12, and the length of the text, which is 0 where
 // the answer is not.
 #[repr(C)]
-#[derive(Drop)]
+#[derive(Clone, Copy)]
 pub struct Written {
     pub answer: u8,
     pub length: usize,

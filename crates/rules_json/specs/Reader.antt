@@ -1,6 +1,6 @@
 -- A reader on lists. Each function tells how many octets of its rule stand at the head of a text, as many as can, and 0 where none do; beside it stands what
 -- they say. That it takes exactly the texts of the rules is shown, and not believed.
-use Rattle.std.specs.Prelude.{ℕ, zero, suc, ◌+◌, ◌-◌, ◌*◌, Bool, cond, false, true, not, ◌&&◌, ◌||◌, List, [], ◌∷◌, ◌++◌, eqb, ltb, drop, get_or, length, take}
+use Rattle.std.specs.Prelude.{ℕ, zero, suc, ◌+◌, ◌-◌, ◌*◌, Bool, cond, true, not, ◌&&◌, ◌||◌, List, [], ◌∷◌, ◌++◌, eqb, ltb, drop, get_or, length, take}
 use Rattle.rules_json.specs.Abnf.{octets, within}
 use Rattle.rules_json.specs.Grammar.{blank, digit, e, escaped, four_hex, hexdig, sign}
 use Rattle.rules_json.specs.Tree.{Member, Scalar, Tree, array, false_literal, null_literal, number, object, scalar, string, true_literal}

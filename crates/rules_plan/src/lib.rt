@@ -1,5 +1,7 @@
 // A planner's text: what it says, and what is wrong with it, by name. What each means is in specs/.
 // Nothing runs here.
+#![tactic(auto)]
+
 use rules::{Report, Settings};
 
 // The words that a line begins with, in the order of specs/Words: a setting or a kind of report.
@@ -64,7 +66,7 @@ pub const TEXT_ENDS: u8 = 11;
 // What a line says: the word that it begins with, what is wrong with its words by themselves, and its
 // numbers, each in the field of a report that it fills.
 #[repr(C)]
-#[derive(Drop)]
+#[derive(Clone, Copy)]
 pub struct Line {
     pub name: u8,
     pub fault: u8,
@@ -73,7 +75,7 @@ pub struct Line {
 
 // What the lines so far have said: which settings, in the order of their words, and what they are; and
 // how many reports.
-#[derive(Drop)]
+#[derive(Clone, Copy)]
 pub struct Said {
     pub given: [bool; 6],
     pub settings: Settings,
@@ -82,7 +84,7 @@ pub struct Said {
 
 // What is wrong with a text, or 0; the line that is at fault, counted from 1, or 0 where none is, as when
 // the text ends too early; and what it says up to there.
-#[derive(Drop)]
+#[derive(Clone, Copy)]
 pub struct Checked {
     pub fault: u8,
     pub line: usize,
@@ -92,7 +94,7 @@ pub struct Checked {
 // What recording a text gives: what is wrong with it, or 0; the line that is at fault, counted from 1,
 // or 0 where none is, as when the text ends too early; and how many reports were entered.
 #[repr(C)]
-#[derive(Drop)]
+#[derive(Clone, Copy)]
 pub struct Recorded {
     pub fault: u8,
     pub line: usize,

@@ -1,5 +1,7 @@
 // Document 02, request 1: the aspect to the passenger screens. What is said of a station, the text
 // that is sent, and what comes back.
+#![tactic(auto)]
+
 mod members;
 mod message;
 mod names;

@@ -6,7 +6,7 @@ ghost use Rattle.screen.specs.Places.{Outermost, with_member};
 use crate::names::first_of;
 
 // Where the first value of each of our names begins: 0 where there is none.
-#[derive(Drop)]
+#[derive(Clone, Copy)]
 pub(crate) struct OurPlaces {
     pub station: usize,
     pub aspect: usize,
@@ -14,7 +14,7 @@ pub(crate) struct OurPlaces {
 }
 
 // The place past the outermost value, and our members' places in it.
-#[derive(Drop)]
+#[derive(Clone, Copy)]
 pub(crate) struct Found {
     pub past: usize,
     pub ours: OurPlaces,

@@ -8,14 +8,14 @@ ghost use Rattle.screen.specs.Places.{five_at, shown_of};
 use rules::TrackDigits;
 
 // How many tracks, and their digits: none where the value is of another form.
-#[derive(Drop)]
+#[derive(Clone, Copy)]
 pub(crate) struct Shown {
     pub count: u8,
     pub digits: TrackDigits,
 }
 
 // The place past a track, and its digits: past is 0 where the value is of another form.
-#[derive(Drop)]
+#[derive(Clone, Copy)]
 struct Five {
     past: usize,
     digits: [u8; 5],

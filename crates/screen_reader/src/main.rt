@@ -1,5 +1,7 @@
 // Reads a message from standard input, and writes one line: `station 7 aspect 2 tracks 11110 11111`,
 // or `refused` and the number.
+#![tactic(auto)]
+
 use libc::STDIN_FILENO;
 use rules::{DONE, Message, TrackDigits};
 

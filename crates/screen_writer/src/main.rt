@@ -1,5 +1,7 @@
 // Reads a register from standard input, and writes the message of its last row, for the station whose
 // number is the second word. Where it cannot, it writes `refused` and the number.
+#![tactic(auto)]
+
 use libc::STDIN_FILENO;
 use rules::{BAD_MEMBER, DONE, NO_ROOM};
 

@@ -1,4 +1,6 @@
 // The lines of a sheet, and the sheet of a register, as bytes in a buffer that the caller lends.
+#![tactic(auto)]
+
 mod counting;
 mod lines;
 mod printing;

@@ -1,4 +1,6 @@
 // What an aspect shows, and what a head with failed parts still shows of it.
+#![tactic(auto)]
+
 ghost use Rattle.std.specs.Prelude.{cond, ◌≡◌};
 ghost use Rattle.rules.specs.Heads.{head_outputs};
 ghost use Rattle.rules.specs.Outputs.{outputs_of};

@@ -1,4 +1,6 @@
 // Document 01, "Siting", with request 5 of document 02: how far from the crossing the detectors stand.
+#![tactic(auto)]
+
 ghost use Rattle.std.specs.Prelude.{◌≡◌, ◌≤◌};
 ghost use Rattle.rules.specs.Numbers.{done, outside_limits};
 ghost use Rattle.rules.specs.Siting.{advance_sited, rounded_up, sited, warning_sited};

@@ -1,6 +1,8 @@
 // Writes how far from the crossing the detectors stand, a line for each speed. After the first word
 // comes the time that the message takes, in seconds, and then the speeds in km/h. A word that is no
 // number up to 65535 stands for one that is outside every limit.
+#![tactic(auto)]
+
 use rules::{DONE, Seconds, Sited};
 
 fn main() {
@@ -31,7 +33,7 @@ fn title(message: &[u8]) -> bool {
         & verb::write(b" km/h    advance  warning 1  warning 2  warning 3  warning 4\n")
 }
 
-#[derive(Drop)]
+#[derive(Clone, Copy)]
 struct Shown {
     refused: bool,
     written: bool,

@@ -1,4 +1,6 @@
 // A station: how it is made, what it shows, and how one thing of it is changed.
+#![tactic(auto)]
+
 mod changing;
 mod making;
 mod showing;
@@ -10,7 +12,7 @@ pub use showing::{aspect, heads, presence, settle, zones};
 pub use surveying::{hold_set, is_obstructed};
 
 // What an accepted report leaves of the hold, and the aspect then.
-#[derive(Drop)]
+#[derive(Clone, Copy)]
 pub struct Settled {
     pub hold: u16,
     pub aspect: u8,

@@ -7,7 +7,7 @@ ghost use Rattle.station.specs.Survey.{risky, survey_of};
 use rules::{Settings, Station, Track};
 
 // The tracks' signs together, and how many tracks count for the greatest risk.
-#[derive(Drop)]
+#[derive(Clone, Copy)]
 pub(crate) struct Survey {
     pub fresh: bool,
     pub present: u8,

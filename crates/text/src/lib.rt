@@ -1,5 +1,7 @@
 // Texts one after the other in a buffer that the caller lends. What io::decimal writes is the number as
 // the definitions have it: proofs/Decimals.
+#![tactic(auto)]
+
 ghost use Rattle.std.specs.Prelude.{◌++◌, ◌≡◌, ◌+◌, ◌≤◌, length};
 ghost use Rattle.io.specs.Counts.{IsPrefixLen};
 ghost use Rattle.rules.specs.Printer.{length_written, written};

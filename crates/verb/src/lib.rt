@@ -3,6 +3,8 @@
 // command holds. Where nothing comes, the program was stopped.
 //
 // This is the one library that touches the world outside, where no contract can say what happens.
+#![tactic(auto)]
+
 use libc::{STDERR_FILENO, STDIN_FILENO, STDOUT_FILENO};
 
 // All was done; something was refused; the input cannot be read; the output cannot be written.
