@@ -1,5 +1,4 @@
 -- `character`: none, an escape or UTF-8.
-use borrow.Author.Rules.{rules}
 use Rattle.json_reader.proofs.CharacterSizes.{encoded_character, escape_character, no_character}
 use Rattle.json_reader.proofs.characters.character.Goals as goal
 

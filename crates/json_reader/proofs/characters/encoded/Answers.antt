@@ -1,7 +1,6 @@
 -- `encoded`: by the number of octets.
 use Prim.Native.Nat.{◌≤◌}
 use native.Mathlib.Omega.{arith}
-use borrow.Author.Rules.{rules}
 use Rattle.json_reader.proofs.CharacterSizes.{four_octets, no_octets, one_octet, three_octets, two_octets}
 use Rattle.json_reader.proofs.characters.encoded.Goals as goal
 
@@ -18,5 +17,6 @@ pub returns-then-first-3 : goal.returns-then-first-3
 returns-then-first-3 c = search four_octets
 
 pub returns : goal.returns
-returns c = let several : 0x80 ≤ c.octet-first.result = omega arith in
+returns c =
+    let several : 0x80 ≤ c.octet-first.result = omega arith in
     search no_octets

@@ -1,5 +1,4 @@
 -- `escape`: a letter, or four hexadecimal digits.
-use borrow.Author.Rules.{rules}
 use Rattle.json_reader.proofs.CharacterSizes.{hex_at, long_escape, short_escape, too_short}
 use Rattle.json_reader.proofs.characters.escape.Goals as goal
 

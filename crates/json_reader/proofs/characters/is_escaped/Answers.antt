@@ -1,7 +1,7 @@
 -- `is_escaped`: letter by letter.
 use Prim.Native.Nat.{ℕ}
-use mathlib.Core.Bool.{Bool, not}
-use mathlib.Core.Path.{ap, sym}
+use mathlib.Core.Bool.{Bool, false, not}
+use mathlib.Core.Path.{◌≡◌, ap, sym}
 use borrow.Author.Tests.{ne_eqb}
 use lib.Dec.{eqb}
 use Rattle.rules_json.specs.Grammar.{escaped}
@@ -34,15 +34,19 @@ returns-in-114 c = sym (ap stands c.in-114.is)
 pub returns-in-116 : goal.returns-in-116
 returns-in-116 c = sym (ap stands c.in-116.is)
 
-pub returns-in_default : goal.returns-in_default
-returns-in_default c = let rest = c.in_default.in_default-own.rest in
+other_letter : (letter : ℕ) → (letter ≡ 0x22 → ⊥) → (letter ≡ 0x5C → ⊥) → (letter ≡ 0x2F → ⊥) → (letter ≡ 0x62 → ⊥)
+    → (letter ≡ 0x66 → ⊥) → (letter ≡ 0x6E → ⊥) → (letter ≡ 0x72 → ⊥) → (letter ≡ 0x74 → ⊥) → false ≡ stands letter
+other_letter letter h1 h2 h3 h4 h5 h6 h7 h8 =
     simp (
-      ne_eqb _ _ rest.0.0.0.0.0.0.0.1,
-      ne_eqb _ _ rest.0.0.0.0.0.0.1,
-      ne_eqb _ _ rest.0.0.0.0.0.1,
-      ne_eqb _ _ rest.0.0.0.0.1,
-      ne_eqb _ _ rest.0.0.0.1,
-      ne_eqb _ _ rest.0.0.1,
-      ne_eqb _ _ rest.0.1,
-      ne_eqb _ _ rest.1,
+      ne_eqb _ _ h1,
+      ne_eqb _ _ h2,
+      ne_eqb _ _ h3,
+      ne_eqb _ _ h4,
+      ne_eqb _ _ h5,
+      ne_eqb _ _ h6,
+      ne_eqb _ _ h7,
+      ne_eqb _ _ h8,
     )
+
+pub returns-in_default : goal.returns-in_default
+returns-in_default c = search other_letter

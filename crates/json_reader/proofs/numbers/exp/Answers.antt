@@ -1,8 +1,6 @@
 -- `exp`: the letter, a sign and digits behind it.
 use native.Mathlib.Omega.{arith}
 use mathlib.Core.Path.{refl}
-use borrow.Author.Rules.{rules}
-use borrow.Author.Tests.{not-false}
 use Rattle.json_reader.proofs.NumberSizes.{exp_absent, exp_none, exp_some}
 use Rattle.json_reader.proofs.Places.{taken_in_text}
 use Rattle.rules_json.specs.Grammar.{e}
@@ -12,9 +10,8 @@ pub returns-then-not-is_e : goal.returns-then-not-is_e
 returns-then-not-is_e c = search exp_absent
 
 pub overflow_add-at : goal.overflow_add-at
-overflow_add-at c = let start = c.args in
-    let is-e = not-false (e c.octet-found.result) c.if-not-is_e.false-raw in
-    omega (arith, taken_in_text start.text.now start.at e _ c.octet-found.ensures refl is-e)
+overflow_add-at c =
+    omega (arith, taken_in_text c.args.text.now c.args.at e _ c.octet-found.ensures refl c.if-not-is_e.false)
 
 pub returns-then-past-power : goal.returns-then-past-power
 returns-then-past-power c = search exp_none

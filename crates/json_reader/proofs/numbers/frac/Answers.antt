@@ -1,6 +1,5 @@
 -- `frac`: the point, and digits behind it.
 use native.Mathlib.Omega.{arith}
-use borrow.Author.Rules.{rules}
 use Rattle.json_reader.proofs.NumberSizes.{frac_absent, frac_none, frac_some}
 use Rattle.json_reader.proofs.Places.{in_text}
 use Rattle.json_reader.proofs.numbers.frac.Goals as goal
@@ -9,8 +8,7 @@ pub returns-then-octet-ne46 : goal.returns-then-octet-ne46
 returns-then-octet-ne46 c = search frac_absent
 
 pub overflow_add-at : goal.overflow_add-at
-overflow_add-at c = let start = c.args in
-    omega (arith, in_text start.text.now start.at (λ z. omega arith))
+overflow_add-at c = omega (arith, in_text c.args.text.now c.args.at (λ z. omega arith))
 
 pub returns-then-past-at : goal.returns-then-past-at
 returns-then-past-at c = search frac_none

@@ -1,5 +1,4 @@
 -- `number`: part by part.
-use borrow.Author.Rules.{rules}
 use Rattle.json_reader.proofs.NumberSizes.{number_none, number_some}
 use Rattle.json_reader.proofs.numbers.number.Goals as goal
 

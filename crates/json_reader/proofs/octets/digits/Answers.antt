@@ -1,9 +1,6 @@
 -- `digits`: the run of digits from each place passed ends where that from the first one does.
-use Prim.Native.Nat.{◌-◌}
-use mathlib.Core.Path.{◌≡◌, refl}
-use borrow.Author.Rules.{rules}
-use lib.ListN.{length}
-use Rattle.json_reader.proofs.Leading.{run_on, run_over, run_end, text_over}
+use mathlib.Core.Path.{refl}
+use Rattle.json_reader.proofs.Leading.{run_on, run_over, text_over}
 use Rattle.rules_json.specs.Grammar.{digit}
 use Rattle.rules_json.specs.Reader.{digits}
 use Rattle.json_reader.proofs.octets.digits.Goals as goal

@@ -1,10 +1,8 @@
 use Prim.Native.Nat.{◌-◌}
-use mathlib.Core.Path.{◌≡◌, refl}
-use borrow.Author.Rules.{rules}
+use mathlib.Core.Path.{◌≡◌}
 use lib.ListN.{length}
-use Rattle.json_reader.proofs.Leading.{run_on, run_over, run_end, text_over}
+use Rattle.json_reader.proofs.Leading.{run_end}
 use Rattle.rules_json.specs.Grammar.{digit}
-use Rattle.rules_json.specs.Reader.{digits}
 use Rattle.json_reader.proofs.octets.digits.Given as goal
 
 abbrev pub invariant-loop-past : goal.invariant-loop-past

@@ -1,6 +1,5 @@
 -- `octet`: past the end it is 0.
 use mathlib.Core.Path.{sym}
-use borrow.Author.Rules.{rules}
 use lib.ListN.{get_or-eq_default}
 use Rattle.json_reader.proofs.octets.octet.Goals as goal
 

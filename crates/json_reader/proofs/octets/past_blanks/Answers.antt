@@ -1,9 +1,7 @@
 -- `past_blanks`: the run of blanks from each place passed ends where that from the first one does.
-use Prim.Native.Nat.{◌-◌}
-use mathlib.Core.Path.{◌≡◌, refl, sym}
-use borrow.Author.Rules.{rules}
-use lib.ListN.{get_or-eq_default, length}
-use Rattle.json_reader.proofs.Leading.{run_on, run_over, run_end, text_over}
+use mathlib.Core.Path.{refl, sym}
+use lib.ListN.{get_or-eq_default}
+use Rattle.json_reader.proofs.Leading.{run_on, run_over, text_over}
 use Rattle.rules_json.specs.Grammar.{blank}
 use Rattle.rules_json.specs.Reader.{blanks}
 use Rattle.json_reader.proofs.octets.past_blanks.Goals as goal
@@ -21,6 +19,6 @@ loop-past-preserved c = search (run_on blank)
 pub returns : goal.returns
 unfolding blanks
 returns c = record {
-      place = search (text_over blank);
-      octet = sym (get_or-eq_default c.args.text.now 0 c.loop-past-test.false);
-    }
+  place = search (text_over blank);
+  octet = sym (get_or-eq_default c.args.text.now 0 c.loop-past-test.false);
+}

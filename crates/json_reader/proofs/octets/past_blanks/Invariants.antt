@@ -1,10 +1,8 @@
 use Prim.Native.Nat.{◌-◌}
-use mathlib.Core.Path.{◌≡◌, refl, sym}
-use borrow.Author.Rules.{rules}
-use lib.ListN.{get_or-eq_default, length}
-use Rattle.json_reader.proofs.Leading.{run_on, run_over, run_end, text_over}
+use mathlib.Core.Path.{◌≡◌}
+use lib.ListN.{length}
+use Rattle.json_reader.proofs.Leading.{run_end}
 use Rattle.rules_json.specs.Grammar.{blank}
-use Rattle.rules_json.specs.Reader.{blanks}
 use Rattle.json_reader.proofs.octets.past_blanks.Given as goal
 
 abbrev pub invariant-loop-past : goal.invariant-loop-past

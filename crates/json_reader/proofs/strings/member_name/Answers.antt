@@ -1,9 +1,7 @@
 -- `member_name`: a string, a colon between blanks.
-use mathlib.Core.List.{List}
 use mathlib.Core.Path.{◌≡◌, ap, refl, sym, ◌∙◌}
-use Prim.Native.Nat.{ℕ, ◌+◌, ◌≤◌, ◌<◌}
+use Prim.Native.Nat.{◌+◌, ◌<◌}
 use native.Mathlib.Omega.{arith}
-use borrow.Author.Rules.{rules}
 use lib.ListN.{drop, length}
 use Rattle.json_reader.proofs.Behind.{part_behind, part_first, part_length}
 use Rattle.json_reader.proofs.Named.{name_taken, no_separator_named, no_string_named}
@@ -27,9 +25,8 @@ slice_bounds-string-count c = omega (arith, within (goal.at.slice_bounds-string-
 pub string-size-requires : goal.string-size-requires
 string-size-requires c = part_first c.args.text.now c.args.at ∙ sym c.octet.ensures ∙ c.if-octet-ne34.false
 
-module _ (c : After-string-size) where
-  past : c.args.at + c.string-size.result ≡ c.args.at + string_size (drop c.args.at c.args.text.now)
-  past = ap (c.args.at +◌) (c.string-size.ensures.value ∙ ap string_size (part_behind c.args.text.now c.args.at))
+past : (c : After-string-size) → c.args.at + c.string-size.result ≡ c.args.at + string_size (drop c.args.at c.args.text.now)
+past c = ap (c.args.at +◌) (c.string-size.ensures.value ∙ ap string_size (part_behind c.args.text.now c.args.at))
 
 pub returns-then-size-eq0 : goal.returns-then-size-eq0
 returns-then-size-eq0 c =

@@ -1,14 +1,11 @@
 -- `string`: turn by turn to the end of the characters.
 use mathlib.Core.Path.{◌≡◌, sym, ap, ◌∙◌}
-use mathlib.Core.List.{List}
-use Prim.Native.Nat.{ℕ, ◌-◌}
 use native.Mathlib.Omega.{arith}
-use borrow.Author.Rules.{rules}
-use lib.ListN.{drop, length}
-use Rattle.rules_json.specs.Reader.{char_size, string_size}
+use lib.ListN.{drop}
+use Rattle.rules_json.specs.Reader.{char_size}
 use Rattle.json_reader.proofs.Behind.{part_behind}
 use Rattle.json_reader.proofs.Ending.{ending_over}
-use Rattle.json_reader.proofs.Quoted.{ char_small, string_begins, string_breaks, string_closes, string_goes_on, string_runs, string_end, turning, }
+use Rattle.json_reader.proofs.Quoted.{char_small, string_begins, string_breaks, string_closes, string_goes_on, string_runs, turning}
 use Rattle.json_reader.proofs.strings.string.Goals as goal
 use Rattle.json_reader.proofs.strings.string.Goals.{After-character-size}
 
@@ -24,9 +21,8 @@ returns-then-found-eq34 c = record {
   upper_bound = omega arith;
 }
 
-module _ (c : After-character-size) where
-  pub sized : c.character-size.result ≡ char_size (drop c.loop-place.place c.args.head.now)
-  sized = c.character-size.ensures ∙ ap char_size (part_behind c.args.head.now c.loop-place.place)
+sized : (c : After-character-size) → c.character-size.result ≡ char_size (drop c.loop-place.place c.args.head.now)
+sized c = c.character-size.ensures ∙ ap char_size (part_behind c.args.head.now c.loop-place.place)
 
 pub returns-then-size-eq0 : goal.returns-then-size-eq0
 returns-then-size-eq0 c =

@@ -1,13 +1,8 @@
-use mathlib.Core.Path.{◌≡◌, sym, ap, ◌∙◌}
-use mathlib.Core.List.{List}
-use Prim.Native.Nat.{ℕ, ◌-◌}
-use native.Mathlib.Omega.{arith}
-use borrow.Author.Rules.{rules}
-use lib.ListN.{drop, length}
-use Rattle.rules_json.specs.Reader.{char_size, string_size}
-use Rattle.json_reader.proofs.Behind.{part_behind}
-use Rattle.json_reader.proofs.Ending.{ending_over}
-use Rattle.json_reader.proofs.Quoted.{ char_small, string_begins, string_breaks, string_closes, string_goes_on, string_runs, string_end, turning, }
+use mathlib.Core.Path.{◌≡◌}
+use Prim.Native.Nat.{◌-◌}
+use lib.ListN.{length}
+use Rattle.rules_json.specs.Reader.{string_size}
+use Rattle.json_reader.proofs.Quoted.{string_end}
 use Rattle.json_reader.proofs.strings.string.Given as goal
 
 abbrev pub invariant-loop-place : goal.invariant-loop-place

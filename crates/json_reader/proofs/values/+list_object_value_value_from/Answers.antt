@@ -39,7 +39,7 @@ pub list-loop-item-init : goal.list-loop-item-init
 list-loop-item-init t c =
     let whole = list_value c.args.text.now c.args.at c.args.deep c.if-deep-eq0.false c.requires in (
       begins 0x5D (value_size (c.args.deep - 1)) c.args.text.now c.args.at _ _ _ c.past_blanks-item.ensures.place
-      c.past_blanks-item.ensures.octet whole refl c.if-item-eq93.false,
+          c.past_blanks-item.ensures.octet whole refl c.if-item-eq93.false,
       c.past_blanks-item.ensures.octet,
     )
 
@@ -73,8 +73,7 @@ list-returns-then-next-ne44 t c =
 pub list-loop-item-preserved : goal.list-loop-item-preserved
 list-loop-item-preserved t c =
     let item = list_item (goal.at.list-loop-item-preserved t c).After-past_blanks-next in
-    let after = c.past_blanks-item-in-loop-item.ensures in
-    (
+    let after = c.past_blanks-item-in-loop-item.ensures in (
       goes_on_lem c.loop-item.invariant.0 item c.if-next-eq93.false _ after.place c.if-next-ne44.false,
       after.octet,
     )

@@ -1,10 +1,7 @@
 -- `word`: what is left of the word decides, from each place passed.
-use Prim.Native.Nat.{◌-◌, ◌≤◌}
-use mathlib.Core.Path.{◌≡◌, refl}
+use mathlib.Core.Path.{refl}
 use borrow.Author.Rules.{rules}
-use lib.ListN.{length}
-use Rattle.json_reader.proofs.Spelt.{left, next_octet, other_word_lem, whole_word}
-use Rattle.rules_json.specs.Reader.{spells}
+use Rattle.json_reader.proofs.Spelt.{next_octet, other_word_lem, whole_word}
 use Rattle.json_reader.proofs.values.word.Goals as goal
 
 pub loop-place-init : goal.loop-place-init

@@ -1,8 +1,7 @@
 use Prim.Native.Nat.{◌-◌, ◌≤◌}
-use mathlib.Core.Path.{◌≡◌, refl}
-use borrow.Author.Rules.{rules}
+use mathlib.Core.Path.{◌≡◌}
 use lib.ListN.{length}
-use Rattle.json_reader.proofs.Spelt.{left, next_octet, other_word_lem, whole_word}
+use Rattle.json_reader.proofs.Spelt.{left}
 use Rattle.rules_json.specs.Reader.{spells}
 use Rattle.json_reader.proofs.values.word.Given as goal
 
