@@ -6,14 +6,14 @@ use Rattle.plan_lines.proofs.lines.line_said.Goals as goal
 
 pub returns : goal.returns
 returns c = let a = c.args in
-    let of-first = c.number_from-first.ensures in
-    let of-second = c.number_from-second.ensures in
-    let of-third = c.number_from-third.ensures in
-    let of-fourth = c.number_from-fourth.ensures in
-    let of-fifth = c.number_from-fifth.ensures in
+    let of_first = c.number_from-first.ensures in
+    let of_second = c.number_from-second.ensures in
+    let of_third = c.number_from-third.ensures in
+    let of_fourth = c.number_from-fourth.ensures in
+    let of_fifth = c.number_from-fifth.ensures in
     let read = six_read (words a.behind.now)
-    of-first.1.0 of-second.1.0 of-third.1.0 of-fourth.1.0 of-fifth.1.0
-    of-first.0 of-second.0 of-third.0 of-fourth.0 of-fifth.0 c.number_from-sixth.ensures.number_value in
+    of_first.line_value of_second.line_value of_third.line_value of_fourth.line_value of_fifth.line_value
+    of_first.number_value of_second.number_value of_third.number_value of_fourth.number_value of_fifth.number_value c.number_from-sixth.ensures.number_value in
     let most = c.mosts_of in
     line_said_lem a.name (words a.behind.now) read most.result most.ensures
     c.name_fault.ensures c.six_faults.ensures c.filled_by.ensures
