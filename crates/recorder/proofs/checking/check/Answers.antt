@@ -14,7 +14,7 @@ use Rattle.recorder.proofs.checking.check.Goals as goal
 
 pub loop-at-init : goal.loop-at-init
 unfolding checked nothing_said unmarked
-loop-at-init c = let said = c.nothing_said_lem.ensures in
+loop-at-init c = let said = c.nothing_said-said.ensures in
     let mark = c.after_mark-at.ensures in
     let text = c.args.text.now in
     let none = ap (λ (s : Said). s.reports) said in

@@ -19,7 +19,7 @@ pub loop-at-init : goal.loop-at-init
 loop-at-init c = (c.after_mark-at.ensures.upper_bound, omega arith, omega arith, refl, refl, refl, λ h. omega arith)
 
 pub overflow_add-line : goal.overflow_add-line
-overflow_add-line c = omega (arith, c.loop-at-test.true, c.loop-at.invariant.2, c.good)
+overflow_add-line c = omega (arith, c.loop-at-test.true, c.loop-at.invariant.2)
 
 pub loop-at-preserved : goal.loop-at-preserved
 loop-at-preserved c = let after = c.enter-after.ensures in
