@@ -9,4 +9,4 @@ use Rattle.sheet.proofs.lines.number_text.Goals as goal
 pub returns : goal.returns
 returns c = let done = c.decimal.ensures in
     let small : c.args.number < 10 ^ 20 = omega arith in
-    record { prefix_len = done.0; text_after = done.1.1 ∙ decimal_is _ _ small done.1.0 }
+    record { prefix_len = done.in_bounds; text_after = done.digits ∙ decimal_is _ _ small done.len }
