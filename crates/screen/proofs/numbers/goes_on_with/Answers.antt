@@ -1,0 +1,6 @@
+-- `goes_on_with`: the test of a digit is the callee's.
+use borrow.Author.Rules.{rules}
+use Rattle.screen.proofs.numbers.goes_on_with.Goals as goal
+
+pub returns : goal.returns
+returns c = cc
