@@ -1,11 +1,8 @@
 -- `members`: before each member, where the object ends and what was found are told by what is left.
-use Prim.Native.Nat.{◌-◌}
 use native.Mathlib.Omega.{arith}
-use borrow.Author.Rules.{rules}
-use lib.ListN.{length}
 use Rattle.json_reader.proofs.Bracketed.{inside}
 use Rattle.json_reader.proofs.Places.{in_text}
-use Rattle.screen.proofs.Seeking.{ MemberRead, Seeking, broken, member_item, member_on, members_over, nameless, no_outermost, object_begins, object_empty, object_ends, string_there, valueless, }
+use Rattle.screen.proofs.Seeking.{MemberRead, broken, member_item, member_on, members_over, nameless, no_outermost, object_begins, object_empty, object_ends, string_there, valueless}
 use Rattle.screen.proofs.members.members.Goals as goal
 use Rattle.screen.proofs.members.members.Goals.{After-octet-found}
 
@@ -15,10 +12,10 @@ overflow_add-at c = let given = c.args in
 
 pub overflow_add-place : goal.overflow_add-place
 overflow_add-place c = omega (
-      arith,
-      in_text c.args.text.now c.blanks-place.result
-          (λ e. omega (arith, c.octet.ensures, c.if-octet-eq125.true)),
-    )
+  arith,
+  in_text c.args.text.now c.blanks-place.result
+      (λ e. omega (arith, c.octet.ensures, c.if-octet-eq125.true)),
+)
 
 pub returns-then-octet-eq125 : goal.returns-then-octet-eq125
 returns-then-octet-eq125 c = object_empty c.args.text.now c.args.at c.requires _ _ c.blanks-place.ensures
@@ -76,13 +73,13 @@ overflow_add-behind c = omega (arith, c.well_formed, inside (member_item (read (
 
 pub loop-place-smaller : goal.loop-place-smaller
 loop-place-smaller c = omega (
-      arith,
-      c.loop-place-test.true,
-      (read (goal.at.loop-place-smaller c).After-octet-found).name_size_lem,
-      (read (goal.at.loop-place-smaller c).After-octet-found).value_size_lem,
-      (read (goal.at.loop-place-smaller c).After-octet-found).skips,
-      c.blanks-place-in-loop-place.ensures,
-    )
+  arith,
+  c.loop-place-test.true,
+  (read (goal.at.loop-place-smaller c).After-octet-found).name_size_lem,
+  (read (goal.at.loop-place-smaller c).After-octet-found).value_size_lem,
+  (read (goal.at.loop-place-smaller c).After-octet-found).skips,
+  c.blanks-place-in-loop-place.ensures,
+)
 
 pub loop-place-preserved : goal.loop-place-preserved
 loop-place-preserved c = member_on (read (goal.at.loop-place-preserved c).After-octet-found) c.if-found-ne44.false c.blanks-place-in-loop-place.ensures

@@ -1,6 +1,5 @@
 -- `outermost`: an object has members, and no other value has.
 use mathlib.Core.Path.{sym, ◌∙◌}
-use borrow.Author.Rules.{rules}
 use Rattle.screen.proofs.Seeking.{no_object}
 use Rattle.screen.proofs.members.outermost.Goals as goal
 

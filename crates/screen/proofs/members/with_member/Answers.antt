@@ -1,12 +1,11 @@
 -- `with_member`: each name by itself.
-use borrow.Author.Rules.{rules}
 use Rattle.screen.specs.Places.{with_member}
 use Rattle.screen.proofs.members.with_member.Goals as goal
 
 pub returns : goal.returns
 unfolding with_member
 returns c = λ i. record {
-      station = c.first_of.ensures i;
-      aspect = c.first_of-2.ensures i;
-      tracks = c.first_of-3.ensures i;
-    }
+  station = c.first_of.ensures i;
+  aspect = c.first_of-2.ensures i;
+  tracks = c.first_of-3.ensures i;
+}

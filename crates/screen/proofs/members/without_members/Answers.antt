@@ -1,6 +1,5 @@
 -- `without_members`: the place told, and no place of ours.
 use mathlib.Core.Path.{ap}
-use borrow.Author.Rules.{rules}
 use Rattle.screen.specs.declared.members.OurPlaces.{OurPlaces}
 use Rattle.screen.proofs.members.without_members.Goals as goal
 

@@ -2,7 +2,6 @@
 use mathlib.Core.Path.{sym, ap, ◌∙◌}
 use mathlib.Core.Bool.{Bool, cond}
 use Rattle.rules.specs.declared.Island.{Island}
-use borrow.Author.Rules.{rules}
 use Rattle.screen.proofs.message.digit.Goals as goal
 
 pub returns-then-island : goal.returns-then-island

@@ -1,8 +1,6 @@
 -- `message_of`: outside the limits four tracks of 0, else what the station shows.
 use mathlib.Core.Path.{sym, ◌∙◌}
-use borrow.Author.Tests.{not-false, not-true}
 use Rattle.screen.proofs.Messages.{refused, sent}
-use borrow.Author.Rules.{rules}
 use Rattle.screen.proofs.message.message_of.Goals as goal
 
 pub returns-then-not-good : goal.returns-then-not-good

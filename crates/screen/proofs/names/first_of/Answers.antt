@@ -1,7 +1,6 @@
 -- `first_of`: each way through it is a way through `first_of`.
 use mathlib.Core.Bool.{false, true}
 use mathlib.Core.Path.{sym, ◌∙◌}
-use borrow.Author.Rules.{rules}
 use Rattle.rules_json.specs.Reader.{string_units}
 use Rattle.screen.proofs.Finding.{first_by, first_kept}
 use Rattle.screen.proofs.names.first_of.Goals as goal

@@ -1,6 +1,5 @@
 -- `letter_size`: a letter stands for itself, or an escape says it.
 use mathlib.Core.Path.{sym, ◌∙◌}
-use borrow.Author.Rules.{rules}
 use Rattle.screen.proofs.Letters.{other_there, stands_there}
 use Rattle.screen.proofs.names.letter_size.Goals as goal
 

@@ -1,9 +1,6 @@
 -- `says`: what is left of the string says what is left of the word, where the whole does.
-use Prim.Native.Nat.{◌-◌}
 use native.Mathlib.Omega.{arith}
-use borrow.Author.Rules.{rules}
-use lib.ListN.{length}
-use Rattle.screen.proofs.Saying.{Saying, letter_of, says_begins, says_on, says_other, says_over}
+use Rattle.screen.proofs.Saying.{letter_of, says_begins, says_on, says_other, says_over}
 use Rattle.screen.proofs.names.says.Goals as goal
 
 pub loop-letter-init : goal.loop-letter-init

@@ -1,8 +1,6 @@
 use Prim.Native.Nat.{◌-◌}
-use native.Mathlib.Omega.{arith}
-use borrow.Author.Rules.{rules}
 use lib.ListN.{length}
-use Rattle.screen.proofs.Saying.{Saying, letter_of, says_begins, says_on, says_other, says_over}
+use Rattle.screen.proofs.Saying.{Saying}
 use Rattle.screen.proofs.names.says.Given as goal
 
 abbrev pub invariant-loop-letter : goal.invariant-loop-letter

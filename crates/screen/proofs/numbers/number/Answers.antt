@@ -1,12 +1,9 @@
 -- `number`: what begins with a digit is a number, which ends within the text; where it does not go on behind the digit,
 -- it is that digit's.
-use Prim.Native.Nat.{ℕ, ◌-◌, ◌≤◌}
+use Prim.Native.Nat.{◌-◌, ◌≤◌}
 use mathlib.Core.Bool.{true}
-use mathlib.Core.List.{List}
 use mathlib.Core.Path.{◌≡◌, ap, refl, sym, ◌∙◌}
 use native.Mathlib.Omega.{arith}
-use borrow.Author.Rules.{rules}
-use borrow.Author.Tests.{not-false, not-true}
 use lib.ListN.{length}
 use Rattle.json_reader.proofs.Cases.{within_true}
 use Rattle.json_reader.proofs.Places.{taken_in_text}

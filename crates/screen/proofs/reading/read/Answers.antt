@@ -1,5 +1,4 @@
 -- `read`: a text is refused or taken as `is_taken` has it, and what is taken gives what its members give.
-use borrow.Author.Rules.{rules}
 use Rattle.screen.proofs.Receiving.{more_text, no_value_lem, our_places, too_long, whole_text}
 use Rattle.screen.proofs.reading.read.Goals as goal
 

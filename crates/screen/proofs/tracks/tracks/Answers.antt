@@ -1,11 +1,9 @@
 -- `tracks`: before each turn the tracks so far are gathered and shown, and what is left gives the others.
-use Prim.Native.Nat.{◌-◌}
 use mathlib.Core.Path.{◌≡◌, sym, ◌∙◌}
 use native.Mathlib.Omega.{arith}
-use borrow.Author.Rules.{rules}
 use Rattle.json_reader.proofs.Places.{in_text}
 use Rattle.rules_json.specs.Reader.{at}
-use Rattle.screen.proofs.FourTracks.{ Rows, all_rows_lem, first_row, no_row, none_shown, other_form, other_row, row_on, row_there, too_many_rows, }
+use Rattle.screen.proofs.FourTracks.{all_rows_lem, first_row, no_row, none_shown, other_form, other_row, row_on, row_there, too_many_rows}
 use Rattle.screen.proofs.tracks.tracks.Goals as goal
 use Rattle.screen.proofs.tracks.tracks.Goals.{After-octet-2}
 
@@ -47,11 +45,11 @@ returns-then-octet-ne44 c = all_rows_lem c.loop-count.invariant _ c.track-five.e
 
 pub overflow_add-behind : goal.overflow_add-behind
 overflow_add-behind c = omega (
-      arith,
-      c.well_formed,
-      in_text c.args.text.now c.blanks-behind.result
-          (λ e. omega (arith, c.octet-in-loop-count.ensures, c.if-octet-ne44.false)),
-    )
+  arith,
+  c.well_formed,
+  in_text c.args.text.now c.blanks-behind.result
+      (λ e. omega (arith, c.octet-in-loop-count.ensures, c.if-octet-ne44.false)),
+)
 
 pub loop-count-preserved : goal.loop-count-preserved
 loop-count-preserved c = row_on c.loop-count.invariant _ c.track-five.ensures c.if-past-eq0.false c.loop-count-test.true

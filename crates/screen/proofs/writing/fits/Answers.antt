@@ -15,10 +15,10 @@ station : (c : Start) → c.args.message.station ≤ 65535
 station c = search rules
 
 at_most_four : (c : Else-not-ranges) → c.args.message.tracks ≤ 4
-at_most_four c = few c.args.message c.if-not-ranges.false-raw
+at_most_four c = few c.args.message c.if-not-ranges.false
 
 pub returns-then-not-ranges : goal.returns-then-not-ranges
-returns-then-not-ranges c = out_of_range c.args.message (station (goal.at.returns-then-not-ranges c).Start) c.if-not-ranges.true-raw
+returns-then-not-ranges c = out_of_range c.args.message (station (goal.at.returns-then-not-ranges c).Start) c.if-not-ranges.true
 
 pub slice_bounds-digits-end : goal.slice_bounds-digits-end
 slice_bounds-digits-end c = omega (arith, at_most_four (goal.at.slice_bounds-digits-end c).Else-not-ranges, twenty (goal.at.slice_bounds-digits-end c).Start)
@@ -31,6 +31,6 @@ pub slice_bounds-some_above-count : goal.slice_bounds-some_above-count
 slice_bounds-some_above-count c = omega (arith, at_most_four (goal.at.slice_bounds-some_above-count c).Else-not-ranges)
 
 pub returns : goal.returns
-returns c = digits_tested c.args.message (station (goal.at.returns c).Start) c.if-not-ranges.false-raw (twenty (goal.at.returns c).Start)
+returns c = digits_tested c.args.message (station (goal.at.returns c).Start) c.if-not-ranges.false (twenty (goal.at.returns c).Start)
     c.some_above-wrong.ensures
     c.some_above-beyond.ensures

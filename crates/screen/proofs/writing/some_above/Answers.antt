@@ -1,10 +1,9 @@
 -- `some_above`: after i digits, whether one of the first i is above the most.
-use Prim.Native.Nat.{◌≤◌, ◌-◌}
 use native.Mathlib.Omega.{arith}
-use mathlib.Core.Path.{◌≡◌, refl, sym, ap, ◌∙◌}
+use mathlib.Core.Path.{refl, sym, ap, ◌∙◌}
 use mathlib.Core.Bool.{Bool, ◌||◌}
 use lib.Dec.{ltb}
-use lib.ListN.{get_or, length, take}
+use lib.ListN.{get_or}
 use lib.Seq.{take_all}
 use Rattle.islands.proofs.Below.{any_more}
 use Rattle.rules.specs.Words.{any}

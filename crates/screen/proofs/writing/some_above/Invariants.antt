@@ -1,13 +1,8 @@
 use Prim.Native.Nat.{◌≤◌, ◌-◌}
-use native.Mathlib.Omega.{arith}
-use mathlib.Core.Path.{◌≡◌, refl, sym, ap, ◌∙◌}
-use mathlib.Core.Bool.{Bool, ◌||◌}
+use mathlib.Core.Path.{◌≡◌}
 use lib.Dec.{ltb}
-use lib.ListN.{get_or, length, take}
-use lib.Seq.{take_all}
-use Rattle.islands.proofs.Below.{any_more}
+use lib.ListN.{length, take}
 use Rattle.rules.specs.Words.{any}
-use borrow.Author.Rules.{rules}
 use Rattle.screen.proofs.writing.some_above.Given as goal
 
 abbrev pub invariant-loop-i : goal.invariant-loop-i

@@ -3,7 +3,6 @@ use mathlib.Core.Path.{sym, ap, ◌∙◌}
 use mathlib.Core.List.{[], ◌∷◌}
 use Rattle.islands.proofs.Listed.{listed}
 use Rattle.screen.specs.Texts.{track_text}
-use borrow.Author.Rules.{rules}
 use Rattle.screen.proofs.writing.track_text.Goals as goal
 
 pub returns : goal.returns

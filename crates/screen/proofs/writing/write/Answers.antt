@@ -1,8 +1,6 @@
 -- `write`: 16 is tested before 12, and a text is never empty, so that a length of 0 says that there is no room.
 use mathlib.Core.Path.{◌≡◌, sym, ◌∙◌}
 use mathlib.Core.Bool.{true}
-use borrow.Author.Rules.{rules}
-use borrow.Author.Tests.{not-false, not-true}
 use Rattle.rules.specs.Screen.{message_fits}
 use Rattle.screen.proofs.Writings.{done, no_room_lem, refused}
 use Rattle.screen.proofs.writing.write.Goals as goal
