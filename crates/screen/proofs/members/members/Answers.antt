@@ -6,17 +6,6 @@ use Rattle.screen.proofs.Seeking.{MemberRead, broken, member_item, member_on, me
 use Rattle.screen.proofs.members.members.Goals as goal
 use Rattle.screen.proofs.members.members.Goals.{After-octet-found}
 
-pub overflow_add-at : goal.overflow_add-at
-overflow_add-at c = let given = c.args in
-    omega (arith, in_text given.text.now given.at (λ e. omega (arith, c.requires)))
-
-pub overflow_add-place : goal.overflow_add-place
-overflow_add-place c = omega (
-  arith,
-  in_text c.args.text.now c.blanks-place.result
-      (λ e. omega (arith, c.octet.ensures, c.if-octet-eq125.true)),
-)
-
 pub returns-then-octet-eq125 : goal.returns-then-octet-eq125
 returns-then-octet-eq125 c = object_empty c.args.text.now c.args.at c.requires _ _ c.blanks-place.ensures
     c.octet.ensures c.if-octet-eq125.true
@@ -58,28 +47,12 @@ module _ (c : After-octet-found) where
         octet_is = c.octet-found.ensures;
       }
 
-pub overflow_add-result : goal.overflow_add-result
-overflow_add-result c = omega (arith, c.well_formed, inside (member_item (read (goal.at.overflow_add-result c).After-octet-found)) (λ e. omega (arith, c.if-found-eq125.true)))
-
 pub returns-then-found-eq125 : goal.returns-then-found-eq125
 returns-then-found-eq125 c = object_ends (read (goal.at.returns-then-found-eq125 c).After-octet-found) c.if-found-eq125.true
 
 pub returns-then-found-ne44 : goal.returns-then-found-ne44
 returns-then-found-ne44 c = no_outermost c.args.text.now c.args.at c.without_members-then-found-ne44.ensures
     (broken (read (goal.at.returns-then-found-ne44 c).After-octet-found) c.if-found-eq125.false c.if-found-ne44.true)
-
-pub overflow_add-behind : goal.overflow_add-behind
-overflow_add-behind c = omega (arith, c.well_formed, inside (member_item (read (goal.at.overflow_add-behind c).After-octet-found)) (λ e. omega (arith, c.if-found-ne44.false)))
-
-pub loop-place-smaller : goal.loop-place-smaller
-loop-place-smaller c = omega (
-  arith,
-  c.loop-place-test.true,
-  (read (goal.at.loop-place-smaller c).After-octet-found).name_size_lem,
-  (read (goal.at.loop-place-smaller c).After-octet-found).value_size_lem,
-  (read (goal.at.loop-place-smaller c).After-octet-found).skips,
-  c.blanks-place-in-loop-place.ensures,
-)
 
 pub loop-place-preserved : goal.loop-place-preserved
 loop-place-preserved c = member_on (read (goal.at.loop-place-preserved c).After-octet-found) c.if-found-ne44.false c.blanks-place-in-loop-place.ensures

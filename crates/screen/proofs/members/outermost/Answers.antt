@@ -3,12 +3,6 @@ use mathlib.Core.Path.{sym, ◌∙◌}
 use Rattle.screen.proofs.Seeking.{no_object}
 use Rattle.screen.proofs.members.outermost.Goals as goal
 
-pub members-requires : goal.members-requires
-members-requires c = sym c.octet.ensures ∙ c.if-octet-eq123.true
-
-pub returns-then-octet-eq123 : goal.returns-then-octet-eq123
-returns-then-octet-eq123 c = c.members.ensures
-
 pub returns : goal.returns
 returns c = let given = c.args in
     no_object given.text.now given.at (λ e. c.if-octet-eq123.false (c.octet.ensures ∙ e))

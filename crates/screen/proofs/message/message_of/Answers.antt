@@ -6,9 +6,6 @@ use Rattle.screen.proofs.message.message_of.Goals as goal
 pub returns-then-not-good : goal.returns-then-not-good
 returns-then-not-good c = refused _ _ (sym c.within_limits-good.ensures ∙ c.if-not-good.true)
 
-pub digits_of-digits-requires : goal.digits_of-digits-requires
-digits_of-digits-requires c = sym c.within_limits-good.ensures ∙ c.if-not-good.false
-
 pub returns : goal.returns
 returns c = let limits = sym c.within_limits-good.ensures ∙ c.if-not-good.false in
     sent _ _ limits c.aspect-aspect.ensures c.digits_of-digits.ensures

@@ -6,9 +6,6 @@ use Rattle.screen.proofs.names.says.Goals as goal
 pub loop-letter-init : goal.loop-letter-init
 loop-letter-init c = says_begins _ _ c.requires.fact
 
-pub letter_size-size-requires : goal.letter_size-size-requires
-letter_size-size-requires c = letter_of c.args.word.now c.loop-letter.letter c.requires.word_value c.loop-letter-test.true
-
 pub returns-then-size-eq0 : goal.returns-then-size-eq0
 returns-then-size-eq0 c = says_other c.loop-letter.invariant c.loop-letter-test.true c.letter_size-size.ensures
     c.requires.word_value c.if-size-eq0.true

@@ -27,12 +27,6 @@ module _ (c : Else-not-is_digit) where
   begins : digit (at c.args.text.now c.args.place) ≡ true
   begins = ap digit (sym c.octet-first.ensures) ∙ a_digit
 
-pub overflow_add-place : goal.overflow_add-place
-overflow_add-place c = omega (arith, c.well_formed, taken_in_text c.args.text.now c.args.place digit _ refl refl (begins (goal.at.overflow_add-place c).Else-not-is_digit))
-
-pub overflow_sub-result : goal.overflow_sub-result
-overflow_sub-result c = (within_true 0x30 0x39 _ (a_digit (goal.at.overflow_sub-result c).Else-not-is_digit)).0
-
 pub returns-then-not-goes_on_with : goal.returns-then-not-goes_on_with
 returns-then-not-goes_on_with c = let ends = ap goes_on_with (sym c.octet.ensures) ∙ sym c.goes_on_with.ensures
     ∙ c.if-not-goes_on_with.true in
@@ -44,9 +38,6 @@ module _ (c : After-value-past) where
   ends =
       number_ends c.args.text.now c.args.place (ap digit (sym c.octet-first.ensures) ∙ sym c.is_digit.ensures ∙ c.if-not-is_digit.false)
       c.value-past.result c.value-past.ensures
-
-pub slice_bounds-number_in-count : goal.slice_bounds-number_in-count
-slice_bounds-number_in-count c = (ends (goal.at.slice_bounds-number_in-count c).After-value-past).0
 
 pub slice_bounds-number_in-end : goal.slice_bounds-number_in-end
 slice_bounds-number_in-end c = (ends (goal.at.slice_bounds-number_in-end c).After-value-past).1

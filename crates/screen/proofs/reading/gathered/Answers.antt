@@ -22,12 +22,6 @@ ranges c =
     c.number-station.ensures c.number-aspect.ensures c.tracks-shown.ensures
     c.if-not-good.false
 
-pub overflow_cast-result : goal.overflow_cast-result
-overflow_cast-result c = omega (arith, ranges (goal.at.overflow_cast-result c).Else-not-good)
-
-pub overflow_cast-result-2 : goal.overflow_cast-result-2
-overflow_cast-result-2 c = omega (arith, ranges (goal.at.overflow_cast-result-2 c).Else-not-good)
-
 pub returns : goal.returns
 returns c = member_good c.requires c.if-missing.false
     c.number-station.ensures c.number-aspect.ensures

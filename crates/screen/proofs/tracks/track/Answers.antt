@@ -18,10 +18,6 @@ returns-then-octet-ne91 c = let given = c.args in
     (other_form given.text.now given.at (λ e. c.if-octet-ne91.true (c.octet.ensures ∙ e)))
     c.no_track.ensures
 
-pub overflow_add-at : goal.overflow_add-at
-overflow_add-at c = let given = c.args in
-    omega (arith, in_text given.text.now given.at (λ e. omega arith))
-
 pub returns-then-octet-eq93 : goal.returns-then-octet-eq93
 returns-then-octet-eq93 c = let given = c.args in
     no_five given.text.now given.at
@@ -38,17 +34,6 @@ returns-then-not-digit c = let given = c.args in
     no_five given.text.now given.at
     (other_digit c.loop-count.invariant _ c.octet-found.ensures c.if-not-digit.true)
     c.no_track-then-not-digit.ensures
-
-pub overflow_sub-digits : goal.overflow_sub-digits
-overflow_sub-digits c = (zero_or_one_lem c.octet-found.result c.if-not-digit.false).0
-
-pub overflow_add-place : goal.overflow_add-place
-overflow_add-place c = let (least, most) = zero_or_one_lem c.octet-found.result c.if-not-digit.false in
-    omega (
-      arith,
-      c.well_formed,
-      in_text c.args.text.now c.loop-count.place (λ e. omega (arith, c.octet-found.ensures)),
-    )
 
 module _ (c : After-octet-next) where
   read : DigitRead c.args.text.now c.args.at c.loop-count.place c.loop-count.digits
@@ -68,15 +53,8 @@ pub returns-then-not-last : goal.returns-then-not-last
 returns-then-not-last c = no_five c.args.text.now c.args.at
     (not_last (read (goal.at.returns-then-not-last c).After-octet-next) c.if-next-ne44.true c.if-not-last.true) c.no_track-then-not-last.ensures
 
-pub overflow_add-result : goal.overflow_add-result
-overflow_add-result c = let last = read (goal.at.overflow_add-result c).After-octet-next in
-    omega (arith, next_within last (λ z. omega (arith, bracket last c.if-not-last.false)))
-
 pub returns-then-next-ne44 : goal.returns-then-next-ne44
 returns-then-next-ne44 c = all_digits (read (goal.at.returns-then-next-ne44 c).After-octet-next) c.if-not-last.false
-
-pub overflow_add-behind : goal.overflow_add-behind
-overflow_add-behind c = omega (arith, c.well_formed, next_within (read (goal.at.overflow_add-behind c).After-octet-next) (λ z. omega (arith, c.if-next-ne44.false)))
 
 pub loop-count-preserved : goal.loop-count-preserved
 loop-count-preserved c = digit_on (read (goal.at.loop-count-preserved c).After-octet-next) c.if-next-ne44.false c.blanks-place-in-loop-count.ensures

@@ -16,10 +16,6 @@ returns-then-octet-ne91 c = let given = c.args in
     (other_form given.text.now given.at (λ e. c.if-octet-ne91.true (c.octet.ensures ∙ e)))
     c.no_tracks.ensures
 
-pub overflow_add-at : goal.overflow_add-at
-overflow_add-at c = let given = c.args in
-    omega (arith, in_text given.text.now given.at (λ e. omega arith))
-
 pub returns-then-octet-eq93 : goal.returns-then-octet-eq93
 returns-then-octet-eq93 c = let given = c.args in
     none_shown given.text.now given.at
@@ -42,14 +38,6 @@ returns-then-past-eq0 c = let given = c.args in
 pub returns-then-octet-ne44 : goal.returns-then-octet-ne44
 returns-then-octet-ne44 c = all_rows_lem c.loop-count.invariant _ c.track-five.ensures c.if-past-eq0.false c.loop-count-test.true
     c.with_track-next.ensures c.blanks-behind.ensures c.octet-in-loop-count.ensures c.if-octet-ne44.true
-
-pub overflow_add-behind : goal.overflow_add-behind
-overflow_add-behind c = omega (
-  arith,
-  c.well_formed,
-  in_text c.args.text.now c.blanks-behind.result
-      (λ e. omega (arith, c.octet-in-loop-count.ensures, c.if-octet-ne44.false)),
-)
 
 pub loop-count-preserved : goal.loop-count-preserved
 loop-count-preserved c = row_on c.loop-count.invariant _ c.track-five.ensures c.if-past-eq0.false c.loop-count-test.true

@@ -21,9 +21,6 @@ pasted d s at j e h =
     ∙ append_assoc (take at d) s (drop (at + 5) d)
     ∙ ap (λ n. take at d ++ (s ++ drop (at + n) d)) (sym e)
 
-pub loop-place-init : goal.loop-place-init
-loop-place-init c = (search rules, search rules, paste-zero c.args.digits (5 * c.args.count) c.args.shown)
-
 pub loop-place-preserved : goal.loop-place-preserved
 loop-place-preserved c = let given = c.args in
     let long : length given.digits ≡ 20 = search rules in
@@ -33,8 +30,3 @@ loop-place-preserved c = let given = c.args in
       pasted_on given.digits given.shown c.loop-place.with (5 * given.count) c.loop-place.place
           (omega arith) (omega arith) c.loop-place.invariant.2,
     )
-
-pub returns : goal.returns
-returns c = let given = c.args in
-    c.loop-place.invariant.2
-    ∙ pasted given.digits given.shown (5 * given.count) c.loop-place.place (search rules) (omega arith)

@@ -20,16 +20,6 @@ at_most_four c = few c.args.message c.if-not-ranges.false
 pub returns-then-not-ranges : goal.returns-then-not-ranges
 returns-then-not-ranges c = out_of_range c.args.message (station (goal.at.returns-then-not-ranges c).Start) c.if-not-ranges.true
 
-pub slice_bounds-digits-end : goal.slice_bounds-digits-end
-slice_bounds-digits-end c = omega (arith, at_most_four (goal.at.slice_bounds-digits-end c).Else-not-ranges, twenty (goal.at.slice_bounds-digits-end c).Start)
-
-pub slice_bounds-some_above-end : goal.slice_bounds-some_above-end
-slice_bounds-some_above-end c = let message = c.args.message in
-    omega (arith, at_most_four (goal.at.slice_bounds-some_above-end c).Else-not-ranges, twenty (goal.at.slice_bounds-some_above-end c).Start, length-take (5 * message.tracks) message.digits)
-
-pub slice_bounds-some_above-count : goal.slice_bounds-some_above-count
-slice_bounds-some_above-count c = omega (arith, at_most_four (goal.at.slice_bounds-some_above-count c).Else-not-ranges)
-
 pub returns : goal.returns
 returns c = digits_tested c.args.message (station (goal.at.returns c).Start) c.if-not-ranges.false (twenty (goal.at.returns c).Start)
     c.some_above-wrong.ensures

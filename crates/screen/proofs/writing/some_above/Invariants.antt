@@ -1,3 +1,4 @@
+-- `some_above`: after i digits, whether one of the first i is above the most.
 use Prim.Native.Nat.{◌≤◌, ◌-◌}
 use mathlib.Core.Path.{◌≡◌}
 use lib.Dec.{ltb}
