@@ -3,9 +3,10 @@ use rules::{
     CLOCK, DETECTOR_FAILED, DETECTOR_RESTORED, HEAD_CONDITION, ISLAND_FREE, ISLAND_OCCUPIED,
     NORMALISE, Report,
 };
+use std::io;
 
 // In the words of its kind, where all that its kind has as 0 is 0.
-pub(crate) fn report(said: Report) -> bool {
+pub(crate) fn report(rt: &impl Print, said: Report) -> io::Result<()> {
     let kind = said.kind;
     let only_places = (said.spare == 0) & (said.value == 0);
     let only_value = (said.b == 0) & (said.spare == 0);
@@ -20,47 +21,34 @@ pub(crate) fn report(said: Report) -> bool {
         _ => false,
     };
     if worded {
-        in_words(said)
+        in_words(rt, said)
     } else {
-        in_numbers(said)
+        in_numbers(rt, said)
     }
 }
 
-fn in_words(said: Report) -> bool {
+fn in_words(rt: &impl Print, said: Report) -> io::Result<()> {
     let kind = said.kind;
     match kind {
-        ISLAND_OCCUPIED => placed(b"report    occupied", said),
-        ISLAND_FREE => placed(b"report    free", said),
-        DETECTOR_FAILED => placed(b"report    failed", said),
-        DETECTOR_RESTORED => placed(b"report    restored", said),
-        CLOCK => verb::write(b"report    clock") & number(said.value) & verb::write(b"\n"),
-        HEAD_CONDITION => {
-            verb::write(b"report    head")
-                & number(said.a as u16)
-                & number(said.value)
-                & verb::write(b"\n")
-        }
-        _ => verb::write(b"report    normalise\n"),
+        ISLAND_OCCUPIED => placed(rt, b"report    occupied", said),
+        ISLAND_FREE => placed(rt, b"report    free", said),
+        DETECTOR_FAILED => placed(rt, b"report    failed", said),
+        DETECTOR_RESTORED => placed(rt, b"report    restored", said),
+        CLOCK => println!(rt; "report    clock {}", said.value),
+        HEAD_CONDITION => println!(rt; "report    head {} {}", said.a, said.value),
+        _ => verb::write(rt, b"report    normalise\n"),
     }
 }
 
 // A track and an island.
-fn placed(words: &[u8], said: Report) -> bool {
-    verb::write(words) & number(said.a as u16) & number(said.b as u16) & verb::write(b"\n")
+fn placed(rt: &impl Print, words: &[u8], said: Report) -> io::Result<()> {
+    verb::write(rt, words)?;
+    println!(rt; " {} {}", said.a, said.b)
 }
 
-fn in_numbers(said: Report) -> bool {
-    verb::write(b"report    report")
-        & number(said.kind as u16)
-        & number(said.a as u16)
-        & number(said.b as u16)
-        & number(said.spare as u16)
-        & number(said.value)
-        & verb::write(b"\n")
-}
-
-fn number(n: u16) -> bool {
-    let mut digits = [0u8; 20];
-    let length = io::decimal(n as u64, &mut digits);
-    verb::write(b" ") & verb::write(&digits[..length])
+fn in_numbers(rt: &impl Print, said: Report) -> io::Result<()> {
+    println!(rt;
+        "report    report {} {} {} {} {}",
+        said.kind, said.a, said.b, said.spare, said.value
+    )
 }

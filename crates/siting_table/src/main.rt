@@ -6,11 +6,12 @@
 use rules::{DONE, Seconds, Sited};
 use std::env::Env;
 use std::io;
+use std::process::ExitCode;
 
-fn main(rt: HostRuntime) {
+fn main(rt: HostRuntime) -> ExitCode {
     let mut word = [0u8; 20];
     let length = verb::word(&rt, 2, &mut word);
-    verb::ended(&rt, table(&rt, &word[..length]));
+    verb::ended(&rt, table(&rt, &word[..length]))
 }
 
 // The whole table, of the time that a message takes, and how that ended.

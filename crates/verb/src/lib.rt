@@ -1,6 +1,6 @@
 // What every verb's program does at its end: it says to the command how it went. Where its first word is
-// 3 it writes one digit to descriptor 3, which the command holds, and its own status is always 0. Where
-// nothing comes, the program was stopped.
+// 3 it writes one digit to descriptor 3, which the command holds. Where nothing comes, the program was
+// stopped.
 //
 // This is the one library that touches the world outside, where no contract can say what happens.
 #![tactic(auto)]
@@ -10,8 +10,9 @@ ghost use Rattle.std.specs.Prelude.{◌≤◌, length};
 use std::env::{Env, FillError};
 use std::fmt::Display;
 use std::fs::OpenOptions;
-use std::io::{Cursor, Read, Write};
+use std::io::{Cursor, ErrorKind, Read, Write};
 use std::os::unix::fs::PermissionsExt;
+use std::process::ExitCode;
 use std::rt::Files;
 use std::{fs, io};
 
@@ -23,6 +24,9 @@ pub const REFUSED: u8 = 1;
 const NOT_READ: u8 = 2;
 
 const NOT_WRITTEN: u8 = 3;
+
+// What a shell has as the status of a program that a closed pipe stopped.
+const PIPE_CLOSED: u8 = 141;
 
 // Descriptor 3, by the name that the system has for it.
 const STATUS: &str = "/proc/self/fd/3";
@@ -97,15 +101,20 @@ pub fn tell_number(rt: &impl Eprint, number: usize) {
     tell(rt, number);
 }
 
-// The end of a verb, with its status where its output was all written.
-pub fn ended(rt: &(impl Env + Eprint + Files), went: io::Result<u8>) {
+// The end of a verb, with its status where its output was all written, and the program's own status,
+// which is 0. A reader that had enough is no news: the program ends as if it were stopped by that.
+pub fn ended(rt: &(impl Env + Eprint + Files), went: io::Result<u8>) -> ExitCode {
     match went {
         Ok(status) => say(rt, status),
         Err(error) => {
+            if error.kind() == ErrorKind::BrokenPipe {
+                return ExitCode::from(PIPE_CLOSED);
+            }
             fail(rt, "the output cannot be written", error);
             say(rt, NOT_WRITTEN);
         }
     }
+    ExitCode::SUCCESS
 }
 
 // Writes a line to standard error: what failed, and why, in the system's words.
