@@ -2,13 +2,14 @@
 -- Assumes nothing.
 use Prim.Native.Nat.{ℕ}
 use mathlib.Core.Path.{◌≡◌, refl, sym, ap, ap₂}
-use mathlib.Core.Bool.{Bool, true, false, ◌||◌, and-false, false≢true}
+use mathlib.Core.Bool.{Bool, true, false, ◌&&◌, ◌||◌, and-false, false≢true}
+use lib.Dec.{leb}
 use mathlib.Core.List.{List, [], ◌∷◌, map}
 use Rattle.clock.proofs.Ages.{later_free}
 use Rattle.clock.specs.Ages.{later, later_track}
-use Rattle.rules.specs.Aspect.{present, some_fresh}
+use Rattle.rules.specs.Aspect.{fresh_approaching, held, present, some_fresh}
 use Rattle.rules.specs.Reports.{late}
-use Rattle.rules.specs.Station.{Zone, some_occupied, zones}
+use Rattle.rules.specs.Station.{Zone, approaching, going_away, is_warning, some_occupied, zones}
 use Rattle.rules.specs.Words.{any, any_with}
 use Rattle.rules.specs.declared.Island.{Island}
 use Rattle.rules.specs.declared.Settings.{Settings}
@@ -41,12 +42,12 @@ module _ (t : Track) (e : some_occupied t ≡ false) where
 
   pub no_fresh : (c : Settings) → some_fresh c t ≡ false
   unfolding some_fresh some_occupied
-  no_fresh c = none _ (λ z i n. simp n) zones t.islands e
+  no_fresh c = none (fresh_approaching c) (λ z i n. simp n) zones t.islands e
 
   pub no_present : (c : Settings) → present c t ≡ false
   unfolding present some_occupied
-  no_present c = none _ (λ z i n. simp (n, and-false)) zones t.islands e
+  no_present c = none (λ z i. approaching i || held c z i || is_warning z && going_away i) (λ z i n. simp (n, and-false)) zones t.islands e
 
   pub no_late : (c : Settings) → late c t ≡ false
   unfolding late some_occupied
-  no_late c = none _ (λ z i n. simp (n, and-false)) zones t.islands e
+  no_late c = none (λ z i. is_warning z && i.occupied && leb c.t5 i.age) (λ z i n. simp (n, and-false)) zones t.islands e

@@ -57,11 +57,11 @@ module _ (text : List ℕ) (start : ℕ) where
   pub other_form : (at text start ≡ 0x5B → ⊥) → five ≡ none
   other_form = no_list (λ n. eqb n 5) 5 (number_of 1) text start
 
-  pub no-digits :
+  pub no_digits :
       at text start ≡ 0x5B → (place found : ℕ) → place ≡ start + 1 + blanks (drop (start + 1) text)
       → found ≡ at text place
       → found ≡ 0x5D → five ≡ none
-  no-digits is place found p o e = list_empty (λ n. eqb n 5) 5 (number_of 1) text start is place found p o e refl
+  no_digits is place found p o e = list_empty (λ n. eqb n 5) 5 (number_of 1) text start is place found p o e refl
 
   -- The digits so far are gathered, and count as many.
   pub record Digits (place : ℕ) (digits : List ℕ) (count : ℕ) : Type 0 where

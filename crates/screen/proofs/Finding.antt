@@ -98,13 +98,13 @@ module _ (text : List ℕ) (whole : List (Member (Tree 7))) where
             finding_done d.tracks;
       }
 
-  pub all-on :
+  pub all_on :
       {m : Member (Tree 7)} {left : List (Member (Tree 7))} {ours next : OurPlaces} → AllFinding (m ∷ left) ours
       → (value : ℕ) → m.value ≡ value_said 7 (drop value text) → (value ≡ 0 → ⊥)
       → (value_size 7 (drop value text) ≡ 0 → ⊥)
       → next ≡ with_member ours m.name value → AllFinding left next
   unfolding with_member
-  all-on {left = left} d value said p v e =
+  all_on {left = left} d value said p v e =
       subst (AllFinding left) (sym e)
       record {
         station = finding_on d.station value said p v;

@@ -84,12 +84,12 @@ module _ (text : List ℕ) (start : ℕ) where
     pub shown : digits ≡ padded (joined had)
     pub listed : Listed tracks_fit 6 track_of text start had place
 
-pub first-row :
+pub first_row :
     (text : List ℕ) (start : ℕ) → at text start ≡ 0x5B → (place found : ℕ)
     → place ≡ start + 1 + blanks (drop (start + 1) text)
     → found ≡ at text place → (found ≡ 0x5D → ⊥) → (value_size 7 (drop start text) ≡ 0 → ⊥)
     → Rows text start place (replicate 20 0) 0
-first-row text start is place found p o h t =
+first_row text start is place found p o h t =
     record {
       had = [];
       counted = refl;

@@ -15,7 +15,7 @@ use Rattle.rules.specs.Screen.{members_of}
 use Rattle.rules_json.specs.Reader.{at, blanks, bracketed_said, member_said, member_size, name_size, scalar_said}
 use Rattle.rules_json.specs.Reader.{string_size, string_units, value_said, value_size}
 use Rattle.rules_json.specs.Tree.{Member, Tree, array, scalar}
-use Rattle.screen.proofs.Finding.{AllFinding, all_done, all_none, all-on}
+use Rattle.screen.proofs.Finding.{AllFinding, all_done, all_none, all_on}
 use Rattle.screen.proofs.Items.{said_begins, said_last, said_none, said_on, said_from}
 use Rattle.screen.specs.Places.{Outermost, with_member}
 use Rattle.screen.specs.declared.members.Found.{Found}
@@ -90,11 +90,11 @@ module _ (text : List ℕ) (start : ℕ) where
     pub walking : Walking 0x7D (member_size (value_size 7)) text start whole place
     pub finding : AllFinding text members (members_from place) ours
 
-  pub object-begins :
+  pub object_begins :
       at text start ≡ 0x7B → (place found : ℕ) → place ≡ start + 1 + blanks (drop (start + 1) text)
       → found ≡ at text place
       → (found ≡ 0x7D → ⊥) → {ours : OurPlaces} → ours ≡ nowhere → Seeking place ours
-  object-begins is place found p o h {ours} e =
+  object_begins is place found p o h {ours} e =
       record {
         behind = omega arith;
         walking = begins 0x7D (member_size (value_size 7)) text start place _ found p o
@@ -164,7 +164,7 @@ module _ {text : List ℕ} {start place : ℕ} {ours next-ours : OurPlaces} {nex
   found_on : {left : List (Member (Tree 7))} → members_from text start place ≡ member_at (drop place text) ∷ left
       → AllFinding text (members text start) left next-ours
   found_on e =
-      all-on text (members text start) (subst (λ l. AllFinding text (members text start) l ours) e r.so_far.finding)
+      all_on text (members text start) (subst (λ l. AllFinding text (members text start) l ours) e r.so_far.finding)
       r.value
       (ap (value_said 7) (text_behind text place (name_size (drop place text))
       ∙ ap (λ k. drop k text) (sym r.name_size_lem)))

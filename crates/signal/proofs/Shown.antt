@@ -114,10 +114,10 @@ module _ (o c : ℕ) where
   abbrev sounders : ℕ
   sounders = heard failed (bit_and o 480)
 
-  dark-is :
+  dark_is :
       dark 1 (bit_and c 768) (bit_and c 240) ≡ (power_failed c || communication_failed c || ltb 1 (failed_sounders c))
   unfolding dark_right ones
-  dark-is =
+  dark_is =
       ap₂ (dark 1) (masked c 8 2) (masked c 4 4)
       ∙ beq_true _ _ (at_list dark_right (digits c 8 2 ++ digits c 4 4) refl)
 
@@ -144,7 +144,7 @@ module _ (o c : ℕ) where
   shown : head_outputs o c ≡ cond (dark 1 (bit_and c 768) (bit_and c 240)) 0 (bit_or lamps sounders)
   unfolding head_outputs
   shown =
-      ap₂ (λ (t : Bool) (n : ℕ). cond t 0 n) (sym dark-is)
+      ap₂ (λ (t : Bool) (n : ℕ). cond t 0 n) (sym dark_is)
       (weighed (λ k. bit o (place k) && not (out c k)) columns ∙ apart _ _ _ _ _ _
       ∙ sym (both ∙ ap₂ ◌+◌ lit_is heard_is))
 

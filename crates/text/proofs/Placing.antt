@@ -29,12 +29,12 @@ joined x y b = simp (take-append_seam, drop-append-add, drop-drop, length-append
 -- A text placed past what has begun is one text with it.
 pub further :
     {x b b' b'' : List ℕ} {at at' : ℕ} (y : List ℕ) → Begun x b at b'
-    → (at' ≡ at + length y) × (b'' ≡ put at y b')
+    → record { value : at' ≡ at + length y; out_after : b'' ≡ put at y b' }
     → Begun (x ++ y) b at' b''
 further {x} {b} y w e =
     record {
-      past = e.0 ∙ ap (λ n. n + length y) w.past ∙ sym (length-append x y);
-      bytes = e.1 ∙ rw (w.past, w.bytes) (joined x y b);
+      past = e.value ∙ ap (λ n. n + length y) w.past ∙ sym (length-append x y);
+      bytes = e.out_after ∙ rw (w.past, w.bytes) (joined x y b);
     }
 
 -- the buffer keeps its length
@@ -56,7 +56,8 @@ unfitted text b h = rw (lt-leb (length text) (length b) h) (refl, refl)
 -- what is promised of the number answered and of the buffer afterwards; the last part follows from the others, and is
 -- there for callers
 abbrev pub Told : List ℕ → List ℕ → ℕ → List ℕ → Type 0
-Told text b r b' = (r ≡ length_written text b) × ((b' ≡ written text b) × IsPrefixLen r b')
+Told text b r b' =
+    record { value : r ≡ length_written text b; out_after : b' ≡ written text b; prefix_len : IsPrefixLen r b' }
 
 counted : (text b : List ℕ) → length_written text b ≤ length (written text b)
 unfolding written length_written
@@ -68,7 +69,7 @@ counted text b = go (fits text b) refl
 
 pub told : (text b : List ℕ) {b' : List ℕ} {r : ℕ} → (r ≡ length_written text b) × (b' ≡ written text b)
     → Told text b r b'
-told text b {b'} {r} e = (e.0, (e.1, (within, counts r b' within)))
+told text b {b'} {r} e = record { value = e.0; out_after = e.1; prefix_len = (within, counts r b' within) }
   where
     within : r ≤ length b'
     within = omega (arith, counted text b, e.0, ap length e.1)
@@ -82,7 +83,7 @@ pub fit : (text b : List ℕ) {b' : List ℕ} {r : ℕ} → length text ≤ leng
 unfolding written length_written
 fit text b h t =
     let yes = le-leb (length text) (length b) h in
-    (t.0 ∙ ap (λ (q : Bool). cond q (length text) 0) yes, t.1.0 ∙ ap (λ (q : Bool). cond q (begun text b) b) yes)
+    (t.value ∙ ap (λ (q : Bool). cond q (length text) 0) yes, t.out_after ∙ ap (λ (q : Bool). cond q (begun text b) b) yes)
 
 -- where it fills the buffer
 pub filled : (text b : List ℕ) {b' : List ℕ} {r : ℕ} → length text ≡ length b → Told text b r b' → b' ≡ text
@@ -94,12 +95,12 @@ filled text b {b'} e t =
 pub written_as : (b : List ℕ) {text line b' : List ℕ} {r : ℕ} → text ≡ line → Told text b r b' → Told line b r b'
 written_as b {b'} {r} e = subst (λ t. Told t b r b') e
 
--- a text copied over the start of a buffer, as `bytes::copy` says it, and what a part of the buffer that long then is
-pub copied-over :
+-- a text copied over the start of a buffer, and what a part of the buffer that long then is
+pub copied_over :
     (word b : List ℕ) {part b' : List ℕ} {r : ℕ} → part ≡ word → r ≡ length part
     → b' ≡ take (length part) part ++ drop (length part) b
     → (r ≡ length word) × ((b' ≡ begun word b) × (IsPrefixLen r b' × (take r b' ≡ word)))
-copied-over word b {part} {b'} {r} e n h = (size, (whole, ((long, sym (ap length same ∙ sym size)), same)))
+copied_over word b {part} {b'} {r} e n h = (size, (whole, ((long, sym (ap length same ∙ sym size)), same)))
   where
     size : r ≡ length word
     size = n ∙ ap length e

@@ -55,6 +55,6 @@ fn put(out: &mut [u8], at: usize, text: &[u8]) -> usize
     ensures value { result ≡ at + length text.now }
     ensures out_after { out.new ≡ Words·put at text.now out.old }
 {
-    bytes::copy(text, &mut out[at..]);
+    out[at..at + text.len()].copy_from_slice(text);
     at + text.len()
 }

@@ -1,0 +1,13 @@
+-- `occupied`: the named island changed, then the hold set.
+use mathlib.Core.Path.{ap, ◌∙◌}
+use Rattle.reports.proofs.Taking.{named}
+use Rattle.rules.specs.Reports.{acted, hold_set, occupied_now}
+use borrow.Author.Rules.{rules}
+use Rattle.reports.proofs.acting.occupied.Goals as goal
+
+pub returns : goal.returns
+unfolding acted
+returns c = let given = c.args in
+    let island = named occupied_now given.station given.report _ _ _ c.track_at-track.ensures
+    c.occupied_now-island.ensures c.with_named.ensures in
+    c.hold_set.ensures ∙ ap hold_set island
