@@ -59,17 +59,15 @@ fn start_of(text: &[u8], line: usize) -> usize
     ensures { result ≤ length text.now }
 {
     let mut ahead = line;
-    let mut at = recorder::after_mark(text);
-    while at < text.len() {
+    for at in recorder::after_mark(text)..text.len() {
         if ahead <= 1 {
             return at;
         }
         if text[at] == b'\n' {
             ahead -= 1;
         }
-        at += 1;
     }
-    at
+    text.len()
 }
 
 // The first line of a text, set in. Whatever could move a terminal's cursor is shown as a question mark.

@@ -2,7 +2,7 @@
 // after the first, in their order. A word that is no number up to 65535 names a row that no register has.
 #![tactic(auto)]
 
-mod reports;
+mod reported;
 mod showing;
 mod words;
 

@@ -1,5 +1,5 @@
 // A row's lines, and an empty one behind them.
-use crate::reports::report;
+use crate::reported::report;
 use crate::words::{answer, aspect, refused};
 use rules::{NOT_REPLAYED, Station, TrackPresence, ZoneDigits};
 use std::io;
