@@ -9,43 +9,49 @@ use rules_plan::{
 // As much of a line as is shown.
 const SHOWN: usize = 72;
 
-pub(crate) fn too_long() {
-    verb::tell(b"the text has more than 262144 bytes\n");
-    nothing();
+pub(crate) fn too_long(rt: &impl Eprint) {
+    verb::tell(rt, "the text has more than 262144 bytes\n");
+    nothing(rt);
 }
 
-pub(crate) fn told(text: &[u8], fault: u8, line: usize) {
+pub(crate) fn told(rt: &impl Eprint, text: &[u8], fault: u8, line: usize) {
     if fault == TEXT_ENDS {
-        verb::tell(b"the text ends before all six settings (tracks, t1, t2, t3, t4, t5)\n");
+        verb::tell(
+            rt,
+            "the text ends before all six settings (tracks, t1, t2, t3, t4, t5)\n",
+        );
     } else {
-        verb::tell(b"line ");
-        verb::tell_number(line);
-        what(fault);
+        verb::tell(rt, "line ");
+        verb::tell_number(rt, line);
+        what(rt, fault);
         let from = start_of(text, line);
-        shown(&text[from..]);
+        shown(rt, &text[from..]);
     }
-    nothing();
+    nothing(rt);
 }
 
-fn what(fault: u8) {
+fn what(rt: &impl Eprint, fault: u8) {
     match fault {
-        NOT_A_NAME => verb::tell(b": not a setting, and not a kind of report\n"),
-        NUMBER_MISSING => verb::tell(b": a number is missing\n"),
-        WORD_TOO_MANY => verb::tell(b": a word too many\n"),
-        NOT_A_BYTE => verb::tell(b": not a number from 0 to 255\n"),
-        NOT_SIXTEEN_BITS => verb::tell(b": not a number from 0 to 65535\n"),
-        LATE_SETTING => verb::tell(b": a setting after the first report\n"),
-        SET_ALREADY => verb::tell(b": set already\n"),
+        NOT_A_NAME => verb::tell(rt, ": not a setting, and not a kind of report\n"),
+        NUMBER_MISSING => verb::tell(rt, ": a number is missing\n"),
+        WORD_TOO_MANY => verb::tell(rt, ": a word too many\n"),
+        NOT_A_BYTE => verb::tell(rt, ": not a number from 0 to 255\n"),
+        NOT_SIXTEEN_BITS => verb::tell(rt, ": not a number from 0 to 65535\n"),
+        LATE_SETTING => verb::tell(rt, ": a setting after the first report\n"),
+        SET_ALREADY => verb::tell(rt, ": set already\n"),
         SETTINGS_MISSING => {
-            verb::tell(b": a report before all six settings (tracks, t1, t2, t3, t4, t5)\n")
+            verb::tell(
+                rt,
+                ": a report before all six settings (tracks, t1, t2, t3, t4, t5)\n",
+            )
         }
-        SETTINGS_OUTSIDE => verb::tell(b": with this the settings are outside their limits\n"),
-        _ => verb::tell(b": more than 8190 reports\n"),
+        SETTINGS_OUTSIDE => verb::tell(rt, ": with this the settings are outside their limits\n"),
+        _ => verb::tell(rt, ": more than 8190 reports\n"),
     }
 }
 
-fn nothing() {
-    verb::tell(b"Nothing is recorded.\n");
+fn nothing(rt: &impl Eprint) {
+    verb::tell(rt, "Nothing is recorded.\n");
 }
 
 // Where a line starts that is counted from 1; the first behind a byte order mark.
@@ -53,34 +59,30 @@ fn start_of(text: &[u8], line: usize) -> usize
     ensures { result ≤ length text.now }
 {
     let mut ahead = line;
-    let mut at = recorder::after_mark(text);
-    while at < text.len() {
+    for at in recorder::after_mark(text)..text.len() {
         if ahead <= 1 {
             return at;
         }
         if text[at] == b'\n' {
             ahead -= 1;
         }
-        at += 1;
     }
-    at
+    text.len()
 }
 
 // The first line of a text, set in. Whatever could move a terminal's cursor is shown as a question mark.
-fn shown(text: &[u8]) {
-    verb::tell(b"    ");
-    bytes(text);
-    verb::tell(b"\n");
+fn shown(rt: &impl Eprint, text: &[u8]) {
+    verb::tell(rt, "    ");
+    bytes(rt, text);
+    verb::tell(rt, "\n");
 }
 
-fn bytes(text: &[u8]) {
-    let mut place: usize = 0;
-    while place < SHOWN {
+fn bytes(rt: &impl Eprint, text: &[u8]) {
+    for place in 0..SHOWN {
         if ends(text, place) {
             return;
         }
-        verb::tell(&[printable(text, place)]);
-        place += 1;
+        verb::tell(rt, char::from(printable(text, place)));
     }
 }
 

@@ -8,25 +8,23 @@ use rules::{
 // Where an entry has its answer.
 const ANSWER: usize = 6;
 
-pub(crate) fn told(register: &RegisterBytes, rows: &RowLines, count: usize) {
-    let refused = told_rows(register, rows, count);
-    verb::tell_number(count);
+pub(crate) fn told(rt: &impl Eprint, register: &RegisterBytes, rows: &RowLines, count: usize) {
+    let refused = told_rows(rt, register, rows, count);
+    verb::tell_number(rt, count);
     if count == 1 {
-        verb::tell(b" report entered, ");
+        verb::tell(rt, " report entered, ");
     } else {
-        verb::tell(b" reports entered, ");
+        verb::tell(rt, " reports entered, ");
     }
-    verb::tell_number(refused);
-    verb::tell(b" of them refused\n");
+    verb::tell_number(rt, refused);
+    verb::tell(rt, " of them refused\n");
 }
 
 // Tells each row whose report was refused, and answers how many there are.
-fn told_rows(register: &RegisterBytes, rows: &RowLines, count: usize) -> usize {
-    let mut row: usize = 0;
+fn told_rows(rt: &impl Eprint, register: &RegisterBytes, rows: &RowLines, count: usize) -> usize {
     let mut refused: usize = 0;
-    while row < count {
-        refused = counted(refused, told_row(register, rows, row));
-        row += 1;
+    for row in 0..count {
+        refused = counted(refused, told_row(rt, register, rows, row));
     }
     refused
 }
@@ -40,7 +38,7 @@ fn counted(refused: usize, more: bool) -> usize {
 }
 
 // Tells a row, counted from 0, if its report was refused, and answers whether it was.
-fn told_row(register: &RegisterBytes, rows: &RowLines, row: usize) -> bool {
+fn told_row(rt: &impl Eprint, register: &RegisterBytes, rows: &RowLines, row: usize) -> bool {
     if MOST <= row {
         return false;
     }
@@ -48,23 +46,32 @@ fn told_row(register: &RegisterBytes, rows: &RowLines, row: usize) -> bool {
     if answer == DONE {
         return false;
     }
-    verb::tell(b"line ");
-    verb::tell_number(rows[row]);
-    why(answer);
-    verb::tell(b"; entered as row ");
-    verb::tell_number(row + 1);
-    verb::tell(b"\n");
+    verb::tell(rt, "line ");
+    verb::tell_number(rt, rows[row]);
+    why(rt, answer);
+    verb::tell(rt, "; entered as row ");
+    verb::tell_number(rt, row + 1);
+    verb::tell(rt, "\n");
     true
 }
 
-fn why(answer: u8) {
+fn why(rt: &impl Eprint, answer: u8) {
     match answer {
-        NO_SUCH_KIND => verb::tell(b": refused 1: no such kind of report"),
-        BAD_FIELD => verb::tell(b": refused 2: a field of the report is not as its kind has it"),
-        NO_SUCH_TRACK => verb::tell(b": refused 3: no such track"),
-        NO_SUCH_ISLAND => verb::tell(b": refused 4: no such island"),
-        NO_SUCH_HEAD => verb::tell(b": refused 5: no such head"),
-        ALREADY_SO => verb::tell(b": refused 6: occupied, free, failed or not failed already"),
-        _ => verb::tell(b": refused 7: an island is occupied or a detector failed"),
+        NO_SUCH_KIND => verb::tell(rt, ": refused 1: no such kind of report"),
+        BAD_FIELD => verb::tell(
+            rt,
+            ": refused 2: a field of the report is not as its kind has it",
+        ),
+        NO_SUCH_TRACK => verb::tell(rt, ": refused 3: no such track"),
+        NO_SUCH_ISLAND => verb::tell(rt, ": refused 4: no such island"),
+        NO_SUCH_HEAD => verb::tell(rt, ": refused 5: no such head"),
+        ALREADY_SO => verb::tell(
+            rt,
+            ": refused 6: occupied, free, failed or not failed already",
+        ),
+        _ => verb::tell(
+            rt,
+            ": refused 7: an island is occupied or a detector failed",
+        ),
     }
 }

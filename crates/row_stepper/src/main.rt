@@ -2,69 +2,52 @@
 // after the first, in their order. A word that is no number up to 65535 names a row that no register has.
 #![tactic(auto)]
 
-mod reports;
+mod reported;
 mod showing;
 mod words;
 
-use libc::STDIN_FILENO;
+use std::env::Env;
+use std::io;
+use std::process::ExitCode;
 
 // The most bytes that a register has.
 const MOST_BYTES: usize = 65536;
 
-fn main() {
+fn main(rt: HostRuntime) -> ExitCode {
     // One byte more than a register has: more is refused before any other test, as by the printer.
     let mut input = [0u8; 65537];
-    let length = io::read_full(STDIN_FILENO, &mut input);
-    if verb::input_failed() {
-        return;
+    let length = verb::read(&rt, &mut input);
+    if verb::input_failed(&rt) {
+        return ExitCode::SUCCESS;
     }
-    rows(&input[..length]);
+    verb::ended(&rt, rows(&rt, &input[..length]))
 }
 
 // The rows one after the other, up to the first that cannot be written.
-fn rows(register: &[u8]) {
-    let words = os::arg_count();
-    let mut word: usize = 2;
+fn rows(rt: &(impl Env + Print), register: &[u8]) -> io::Result<u8> {
     let mut refused = false;
-    let mut written = true;
-    while word < words {
-        let shown = row(register, word);
-        refused = refused | shown.refused;
-        written = written & shown.written;
-        word += 1;
+    for place in 2..verb::words(rt) {
+        let now = row(rt, register, place)?;
+        refused = refused | now;
     }
-    verb::ended(written, if refused { verb::REFUSED } else { verb::DONE });
+    Ok(if refused { verb::REFUSED } else { verb::DONE })
 }
 
-#[derive(Clone, Copy)]
-struct Shown {
-    refused: bool,
-    written: bool,
-}
-
-// The row that a word names.
-fn row(register: &[u8], place: usize) -> Shown {
+// The row that a word names, and whether it was refused.
+fn row(rt: &(impl Env + Print), register: &[u8], place: usize) -> io::Result<bool> {
     let mut word = [0u8; 20];
-    let length = os::arg(place, &mut word);
-    let named = showing::named(&word[..length]);
+    let length = verb::word(rt, place, &mut word);
+    showing::named(rt, &word[..length])?;
     if MOST_BYTES < register.len() {
-        return refused(named, rules::NO_ROOM, 0);
+        showing::refusal(rt, rules::NO_ROOM, 0)?;
+        return Ok(true);
     }
     let number = digits::number_in(&word[..length]) as usize;
     let reading = browser::browse(register, number);
     if reading.answer != rules::DONE {
-        return refused(named, reading.answer, reading.entry as u64);
+        showing::refusal(rt, reading.answer, reading.entry)?;
+        return Ok(true);
     }
-    let entry = register::entry(register, number);
-    Shown {
-        refused: false,
-        written: named & showing::row(entry, reading.station),
-    }
-}
-
-fn refused(named: bool, answer: u8, entry: u64) -> Shown {
-    Shown {
-        refused: true,
-        written: named & showing::refusal(answer, entry),
-    }
+    showing::row(rt, register::entry(register, number), reading.station)?;
+    Ok(false)
 }

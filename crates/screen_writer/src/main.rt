@@ -2,8 +2,9 @@
 // number is the second word. Where it cannot, it writes `refused` and the number.
 #![tactic(auto)]
 
-use libc::STDIN_FILENO;
 use rules::{BAD_MEMBER, DONE, NO_ROOM};
+use std::io;
+use std::process::ExitCode;
 
 // The most bytes that a register has.
 const MOST_BYTES: usize = 65536;
@@ -14,43 +15,42 @@ const LONGEST: usize = 87;
 // Above every station's number.
 const NO_NUMBER: u32 = 65536;
 
-fn main() {
+fn main(rt: HostRuntime) -> ExitCode {
     let mut word = [0u8; 6];
-    let length = os::arg(2, &mut word);
+    let length = verb::word(&rt, 2, &mut word);
     let number = digits::number_in(&word[..length]);
     if NO_NUMBER <= number {
-        refused(BAD_MEMBER, 0);
-        return;
+        return verb::ended(&rt, refused(&rt, BAD_MEMBER, 0));
     }
     // One byte more than a register has: more is refused, and nobody needs the rest.
     let mut input = [0u8; 65537];
-    let given = io::read_full(STDIN_FILENO, &mut input);
-    if verb::input_failed() {
-        return;
+    let given = verb::read(&rt, &mut input);
+    if verb::input_failed(&rt) {
+        return ExitCode::SUCCESS;
     }
-    told(number as u16, &input[..given]);
+    verb::ended(&rt, told(&rt, number as u16, &input[..given]))
 }
 
 // Writes the message of a register's last row.
-fn told(number: u16, register: &[u8]) {
+fn told(rt: &impl Print, number: u16, register: &[u8]) -> io::Result<u8> {
     if MOST_BYTES < register.len() {
-        refused(NO_ROOM, 0);
-        return;
+        return refused(rt, NO_ROOM, 0);
     }
     let last = register::read(register);
     if last.answer != DONE {
-        refused(last.answer, last.entry as u64);
-        return;
+        return refused(rt, last.answer, last.entry as u64);
     }
     let station = last.station;
     let mut text = [0u8; LONGEST];
     let written = screen::write(screen::message_of(number, station), &mut text);
-    let whole = verb::write(&text[..written.length]) & verb::write(b"\n");
-    verb::ended(whole, verb::DONE);
+    verb::write(rt, &text[..written.length])?;
+    verb::write(rt, b"\n")?;
+    Ok(verb::DONE)
 }
 
-fn refused(answer: u8, entry: u64) {
+fn refused(rt: &impl Print, answer: u8, entry: u64) -> io::Result<u8> {
     let mut line = [0u8; 64];
     let length = sheet::refusal_line(&mut line, answer, entry);
-    verb::ended(verb::write(&line[..length]), verb::REFUSED);
+    verb::write(rt, &line[..length])?;
+    Ok(verb::REFUSED)
 }

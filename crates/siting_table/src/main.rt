@@ -4,20 +4,21 @@
 #![tactic(auto)]
 
 use rules::{DONE, Seconds, Sited};
+use std::env::Env;
+use std::io;
+use std::process::ExitCode;
 
-fn main() {
+fn main(rt: HostRuntime) -> ExitCode {
     let mut word = [0u8; 20];
-    let length = os::arg(2, &mut word);
-    let titled = title(&word[..length]);
-    let shown = lines(Seconds::of(number(&word[..length])));
-    verb::ended(
-        titled & shown.written,
-        if shown.refused {
-            verb::REFUSED
-        } else {
-            verb::DONE
-        },
-    );
+    let length = verb::word(&rt, 2, &mut word);
+    verb::ended(&rt, table(&rt, &word[..length]))
+}
+
+// The whole table, of the time that a message takes, and how that ended.
+fn table(rt: &(impl Env + Print), message: &[u8]) -> io::Result<u8> {
+    title(rt, message)?;
+    let refused = lines(rt, Seconds::of(number(message)))?;
+    Ok(if refused { verb::REFUSED } else { verb::DONE })
 }
 
 // The number that a word stands for.
@@ -26,74 +27,60 @@ fn number(word: &[u8]) -> u16 {
     if found < 65535 { found as u16 } else { 65535 }
 }
 
-fn title(message: &[u8]) -> bool {
-    verb::write(b"The message takes ")
-        & verb::write(message)
-        & verb::write(b" s. The warning distance is for 1 to 4 tracks to cross.\n")
-        & verb::write(b" km/h    advance  warning 1  warning 2  warning 3  warning 4\n")
+fn title(rt: &impl Print, message: &[u8]) -> io::Result<()> {
+    verb::write(rt, b"The message takes ")?;
+    verb::write(rt, message)?;
+    verb::write(
+        rt,
+        b" s. The warning distance is for 1 to 4 tracks to cross.\n",
+    )?;
+    verb::write(
+        rt,
+        b" km/h    advance  warning 1  warning 2  warning 3  warning 4\n",
+    )
 }
 
-#[derive(Clone, Copy)]
-struct Shown {
-    refused: bool,
-    written: bool,
-}
-
-fn lines(message: Seconds) -> Shown {
-    let words = os::arg_count();
-    let mut word: usize = 3;
+// A line for each speed, and whether any was refused.
+fn lines(rt: &(impl Env + Print), message: Seconds) -> io::Result<bool> {
     let mut refused = false;
-    let mut written = true;
-    while word < words {
-        let shown = line(word, message);
-        refused = refused | shown.refused;
-        written = written & shown.written;
-        word += 1;
+    for place in 3..verb::words(rt) {
+        let now = line(rt, place, message)?;
+        refused = refused | now;
     }
-    Shown { refused, written }
+    Ok(refused)
 }
 
-// The speed that a word names, as it was typed, and its distances.
-fn line(place: usize, message: Seconds) -> Shown {
+// The speed that a word names, as it was typed, and its distances; and whether any was refused.
+fn line(rt: &(impl Env + Print), place: usize, message: Seconds) -> io::Result<bool> {
     let mut word = [0u8; 20];
-    let length = os::arg(place, &mut word);
+    let length = verb::word(rt, place, &mut word);
     let speed = number(&word[..length]);
     let advance = siting::advance(speed, message);
     let warning = siting::warning(speed, 1);
-    Shown {
-        // For 1 to 4 tracks a warning distance is refused by its speed alone.
-        refused: (advance.answer != DONE) | (warning.answer != DONE),
-        written: cell(b"     ", &word[..length])
-            & distance(advance)
-            & distance(warning)
-            & distance(siting::warning(speed, 2))
-            & distance(siting::warning(speed, 3))
-            & distance(siting::warning(speed, 4))
-            & verb::write(b"\n"),
-    }
+    cell(rt, b"     ", &word[..length])?;
+    distance(rt, advance)?;
+    distance(rt, warning)?;
+    distance(rt, siting::warning(speed, 2))?;
+    distance(rt, siting::warning(speed, 3))?;
+    distance(rt, siting::warning(speed, 4))?;
+    verb::write(rt, b"\n")?;
+    // For 1 to 4 tracks a warning distance is refused by its speed alone.
+    Ok((advance.answer != DONE) | (warning.answer != DONE))
 }
 
 // A distance in metres with one decimal, or the number that it is refused with, in eleven columns.
-fn distance(sited: Sited) -> bool {
+fn distance(rt: &impl Print, sited: Sited) -> io::Result<()> {
     if sited.answer != DONE {
-        return verb::write(b"  refused 8");
+        return verb::write(rt, b"  refused 8");
     }
-    let decimetres = sited.distance.number() as u64;
-    let mut metres = [0u8; 20];
-    let length = io::decimal(decimetres / 10, &mut metres);
-    let mut tenth = [0u8; 20];
-    let one = io::decimal(decimetres % 10, &mut tenth);
-    cell(b"       ", &metres[..length])
-        & verb::write(b".")
-        & verb::write(&tenth[..one])
-        & verb::write(b" m")
+    let decimetres = sited.distance.number();
+    print!(rt; "{:>7}.{} m", decimetres / 10, decimetres % 10)
 }
 
 // A text at the right end of as many columns as there are blanks.
-fn cell(blanks: &[u8], text: &[u8]) -> bool {
-    if blanks.len() < text.len() {
-        return verb::write(text);
+fn cell(rt: &impl Print, blanks: &[u8], text: &[u8]) -> io::Result<()> {
+    if text.len() < blanks.len() {
+        verb::write(rt, &blanks[text.len()..])?;
     }
-    let taken = text.len();
-    verb::write(&blanks[taken..]) & verb::write(text)
+    verb::write(rt, text)
 }

@@ -1,11 +1,20 @@
-// What every verb's program does at its end: it says to the command how it went. A program in Rattle has
-// no status of its own, so where its first word is 3 it writes one digit to descriptor 3, which the
-// command holds. Where nothing comes, the program was stopped.
+// What every verb's program does at its end: it says to the command how it went. Where its first word is
+// 3 it writes one digit to descriptor 3, which the command holds. Where nothing comes, the program was
+// stopped.
 //
 // This is the one library that touches the world outside, where no contract can say what happens.
 #![tactic(auto)]
 
-use libc::{STDERR_FILENO, STDIN_FILENO, STDOUT_FILENO};
+ghost use Rattle.std.specs.Prelude.{◌≤◌, length};
+
+use std::env::{Env, FillError};
+use std::fmt::Display;
+use std::fs::OpenOptions;
+use std::io::{Cursor, ErrorKind, Read, Write};
+use std::os::unix::fs::PermissionsExt;
+use std::process::ExitCode;
+use std::rt::Files;
+use std::{fs, io};
 
 // All was done; something was refused; the input cannot be read; the output cannot be written.
 pub const DONE: u8 = 0;
@@ -16,61 +25,137 @@ const NOT_READ: u8 = 2;
 
 const NOT_WRITTEN: u8 = 3;
 
-const STATUS_FILENO: i32 = 3;
+// What a shell has as the status of a program that a closed pipe stopped.
+const PIPE_CLOSED: u8 = 141;
+
+// Descriptor 3, by the name that the system has for it.
+const STATUS: &str = "/proc/self/fd/3";
+
+// The permission by which the system shows that a descriptor can be written.
+const WRITABLE: u32 = 0o200;
+
+// How many words the program was started with, its own name among them.
+pub fn words(rt: &impl Env) -> usize {
+    for place in 0..usize::MAX {
+        if matches!(rt.arg(place, &mut []), Err(FillError::NotPresent)) {
+            return place;
+        }
+    }
+    usize::MAX
+}
+
+// Puts a word at the start of the room, and answers its length. It is 0 also where there is no such word,
+// and where the word is longer than the room. Word 0 is the program's name.
+pub fn word(rt: &impl Env, place: usize, room: &mut [u8]) -> usize
+    ensures in_bounds { result ≤ length room.new }
+{
+    match rt.arg(place, room) {
+        Ok(length) => length,
+        Err(_) => 0,
+    }
+}
+
+// Reads standard input until the room is full, the input ends or it cannot be read on, and answers how
+// many bytes were put at the start of the room.
+pub fn read(rt: &impl Input, room: &mut [u8]) -> usize
+    ensures in_bounds { result ≤ length room.new }
+{
+    let mut reader = rt.reader();
+    let mut done = 0;
+    while done < room.len() {
+        match reader.read(&mut room[done..]) {
+            Ok(0) | Err(_) => break,
+            Ok(count) => done += count,
+        }
+    }
+    done
+}
 
 // Whether the input, read as far as it went, ended because it could not be read on: a reading that
 // fails looks like the end of what is read, and a part would be taken for the whole. That is then how
 // it went, and nothing is left to do.
-pub fn input_failed() -> bool {
+pub fn input_failed(rt: &(impl Input + Env + Eprint + Files)) -> bool {
     let mut one = [0u8; 1];
-    if libc::read(STDIN_FILENO, &mut one) < 0 {
-        os::fail(b"the input cannot be read");
-        say(NOT_READ);
-        return true;
-    }
-    false
-}
-
-// Writes a text to standard output, and answers whether all of it was taken.
-pub fn write(text: &[u8]) -> bool {
-    io::write_all(STDOUT_FILENO, text)
-}
-
-// Writes a text to standard error. Where that cannot be written there is nobody to tell.
-pub fn tell(text: &[u8]) {
-    io::write_all(STDERR_FILENO, text);
-}
-
-// Writes a number to standard error.
-pub fn tell_number(number: usize) {
-    io::print_decimal(STDERR_FILENO, number as u64);
-}
-
-// The end of a verb whose output was all written, or was not.
-pub fn ended(written: bool, status: u8) {
-    if !written {
-        os::fail(b"the output cannot be written");
-        say(NOT_WRITTEN);
-        return;
-    }
-    say(status);
-}
-
-fn say(status: u8) {
-    let mut word = [0u8; 1];
-    let length = os::arg(1, &mut word);
-    if length == 1 {
-        if word[0] == b'3' {
-            digit(status);
+    match rt.reader().read(&mut one) {
+        Ok(_) => false,
+        Err(error) => {
+            fail(rt, "the input cannot be read", error);
+            say(rt, NOT_READ);
+            true
         }
     }
 }
 
-fn digit(status: u8) {
-    match status {
-        DONE => io::write_all(STATUS_FILENO, b"0"),
-        REFUSED => io::write_all(STATUS_FILENO, b"1"),
-        NOT_READ => io::write_all(STATUS_FILENO, b"2"),
-        _ => io::write_all(STATUS_FILENO, b"3"),
-    };
+// Writes a text to standard output: all of it, or the error tells why not.
+pub fn write(rt: &impl Print, text: &[u8]) -> io::Result<()> {
+    rt.write_all(text)
+}
+
+// Writes a text to standard error. Where that cannot be written there is nobody to tell.
+pub fn tell(rt: &impl Eprint, text: impl Display + Drop) {
+    let _ = rt.eprint(text);
+}
+
+// Writes a number to standard error.
+pub fn tell_number(rt: &impl Eprint, number: usize) {
+    tell(rt, number);
+}
+
+// The end of a verb, with its status where its output was all written, and the program's own status,
+// which is 0. A reader that had enough is no news: the program ends as if it were stopped by that.
+pub fn ended(rt: &(impl Env + Eprint + Files), went: io::Result<u8>) -> ExitCode {
+    match went {
+        Ok(status) => say(rt, status),
+        Err(error) => {
+            if error.kind() == ErrorKind::BrokenPipe {
+                return ExitCode::from(PIPE_CLOSED);
+            }
+            fail(rt, "the output cannot be written", error);
+            say(rt, NOT_WRITTEN);
+        }
+    }
+    ExitCode::SUCCESS
+}
+
+// Writes a line to standard error: what failed, and why, in the system's words.
+fn fail(rt: &impl Eprint, what: &str, error: io::Error) {
+    let mut shown = Cursor::new([0u8; 96]);
+    let _ = write!(shown, "{error}");
+    let length = shown.position() as usize;
+    let text = shown.into_inner();
+    let why = words_alone(&text[..length.min(text.len())]);
+    let _ = rt.eprintln(format_args!("{what}: {why}"));
+}
+
+// An error is shown with its number behind its words.
+fn words_alone(shown: &[u8]) -> &str {
+    let text = str::from_utf8(shown).unwrap_or("");
+    match text.split_once(" (os error ") {
+        Some((words, _)) => words,
+        None => text,
+    }
+}
+
+fn say(rt: &(impl Env + Files), status: u8) {
+    let mut first = [0u8; 1];
+    let length = word(rt, 1, &mut first);
+    if length == 1 && first[0] == b'3' {
+        // Where it cannot be said, the program looks like one that was stopped.
+        let _ = digit(rt, status);
+    }
+}
+
+// At the end of what is there, so that a file keeps it.
+fn digit(rt: &impl Files, status: u8) -> io::Result<()> {
+    let mode = fs::symlink_metadata(rt, STATUS)?.permissions().mode();
+    if mode & WRITABLE == 0 {
+        return Ok(());
+    }
+    let mut file = OpenOptions::new().append(true).open(rt, STATUS)?;
+    file.write_all(match status {
+        DONE => b"0",
+        REFUSED => b"1",
+        NOT_READ => b"2",
+        _ => b"3",
+    })
 }
