@@ -83,7 +83,7 @@ module _ {A : Type 0} {P : A → Rule} {C : A → Part} (cores : Cores P C) (clo
       let v = cores.inward value in
       let separator = separator_inward cores 0x2C ws comma v in
       turn (record { value = x; is = refl; rest = k; item = item; separator = separator })
-      (items_inward ys v.part v.after rest closed)
+      (items_inward {x = y} ys v.part v.after rest closed)
 
   record Listed (xs : List A) (s u : List ℕ) : Type 0 where
     first : A

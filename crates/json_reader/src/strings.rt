@@ -1,6 +1,6 @@
 // Section 7: string = quotation-mark *char quotation-mark, and the name in front of a member's value.
 ghost use Rattle.std.specs.Prelude.{◌≡◌, ◌+◌, ◌≤◌, drop, length};
-ghost use Rattle.rules_json.specs.Reader.{at as octetAt, name_size, string_size};
+ghost use Rattle.rules_json.specs.Reader.{at as octet_at, name_size, string_size};
 
 use crate::characters::character;
 use crate::octets::{blanks, octet, past_blanks};
@@ -8,7 +8,7 @@ use crate::octets::{blanks, octet, past_blanks};
 // How many octets the string at the head has, which begins with its quotation mark: 0 where there is
 // none. (That they stand in the text follows; it is said so that a caller's sum needs no proof.)
 pub(crate) fn string(head: &[u8]) -> usize
-    requires { octetAt head.now 0 ≡ 0x22 }
+    requires { octet_at head.now 0 ≡ 0x22 }
     ensures value { result ≡ string_size head.now }
     ensures upper_bound { result ≤ length head.now }
 {

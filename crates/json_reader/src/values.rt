@@ -1,7 +1,7 @@
 // Sections 3 to 5: values. The readers of values, lists and objects call each other with the depth left
 // and the octets left falling; that they end is shown by the depth alone.
 ghost use Rattle.std.specs.Prelude.{◌≡◌, ◌+◌, ◌<◌, ◌≤◌, drop, length};
-ghost use Rattle.rules_json.specs.Reader.{at as octetAt, scalar_size, value_size, word_size};
+ghost use Rattle.rules_json.specs.Reader.{at as octet_at, scalar_size, value_size, word_size};
 
 use crate::numbers::number;
 use crate::octets::{octet, past_blanks};
@@ -18,7 +18,7 @@ pub fn value(text: &[u8], at: usize, deep: u8) -> usize
 // The same, where the octet at the place is known.
 #[cycle(list_object_value_value_from)]
 fn value_from(text: &[u8], at: usize, first: u8, deep: u8) -> usize
-    requires { first ≡ octetAt text.now at }
+    requires { first ≡ octet_at text.now at }
     ensures { result ≡ at + value_size deep (drop at text.now) }
 {
     if first == b'{' {
@@ -33,7 +33,7 @@ fn value_from(text: &[u8], at: usize, first: u8, deep: u8) -> usize
 // array = begin-array [ value *( value-separator value ) ] end-array
 #[cycle(list_object_value_value_from)]
 fn list(text: &[u8], at: usize, deep: u8) -> usize
-    requires { octetAt text.now at ≡ 0x5B }
+    requires { octet_at text.now at ≡ 0x5B }
     ensures { result ≡ at + value_size deep (drop at text.now) }
 {
     if deep == 0 {
@@ -63,7 +63,7 @@ fn list(text: &[u8], at: usize, deep: u8) -> usize
 // object = begin-object [ member *( value-separator member ) ] end-object
 #[cycle(list_object_value_value_from)]
 fn object(text: &[u8], at: usize, deep: u8) -> usize
-    requires { octetAt text.now at ≡ 0x7B }
+    requires { octet_at text.now at ≡ 0x7B }
     ensures { result ≡ at + value_size deep (drop at text.now) }
 {
     if deep == 0 {
@@ -96,7 +96,7 @@ fn object(text: &[u8], at: usize, deep: u8) -> usize
 
 // Past a string, a literal or a number, by the octet at its place.
 fn scalar(text: &[u8], at: usize, first: u8) -> usize
-    requires { first ≡ octetAt text.now at }
+    requires { first ≡ octet_at text.now at }
     ensures { result ≡ at + scalar_size (drop at text.now) }
 {
     if first == b'"' {
