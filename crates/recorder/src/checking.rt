@@ -4,7 +4,7 @@ ghost use Rattle.recorder.specs.ByName.{report_fault, setting_fault};
 ghost use Rattle.rules_plan.specs.Faults.{checked, checked_from, line_fault};
 
 use crate::parting::{after_mark, line_from};
-use crate::saying::{all_given, given_already, is_report, is_setting, nothing_said_lem, with_line};
+use crate::saying::{all_given, given_already, is_report, is_setting, nothing_said, with_line};
 use rules::MOST;
 use rules_plan::{
     Checked, LATE_SETTING, Line, SET_ALREADY, SETTINGS_MISSING, SETTINGS_OUTSIDE, Said, TEXT_ENDS,
@@ -17,7 +17,7 @@ pub(crate) fn check(text: &[u8]) -> Checked
 {
     let mut at = after_mark(text);
     let mut line: usize = 1;
-    let mut said = nothing_said_lem();
+    let mut said = nothing_said();
     while at < text.len() {
         let first = line_from(text, at);
         let found = first.found;

@@ -6,7 +6,7 @@ ghost use Rattle.rules_plan.specs.Lines.{is_report, is_setting};
 use rules::Settings;
 use rules_plan::{Line, OCCUPIED, OTHER_WORD, Said, T1, T2, T3, T4, T5, TRACKS};
 
-pub(crate) fn nothing_said_lem() -> Said
+pub(crate) fn nothing_said() -> Said
     ensures { result ≡ nothing_said }
 {
     Said {

@@ -1,0 +1,7 @@
+-- `reports_after`: one more where there is a report.
+use native.Mathlib.Numerals.{add-one}
+use borrow.Author.Rules.{rules}
+use Rattle.recorder.proofs.saying.reports_after.Goals as goal
+
+pub returns-then-more : goal.returns-then-more
+returns-then-more c = simp (c.if-more.true, add-one)
