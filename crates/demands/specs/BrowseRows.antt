@@ -11,7 +11,7 @@ use Rattle.rules.specs.rows.Row.{Row, rows, together}
 
 -- a browser of these bytes, which are lent at some place, just opened
 abbrev pub on : List ℕ → Browser
-on bytes = opened (record { ref_ptr = (3, 7); ghost_name = 1; now = bytes })
+on bytes = opened (record { ref_ptr = (3, 7); now = bytes })
 
 -- for each move: its answer, its count and the aspect of the station that it shows, and the row
 -- that the browser stands on then
@@ -22,7 +22,7 @@ walk w (m ∷ ms) =
 
 -- where the register lies that the browser holds
 abbrev pub place : Browser → List ℕ
-place w = w.register.ptr.0 ∷ w.register.ptr.1 ∷ []
+place w = w.register.ref_ptr.0 ∷ w.register.ref_ptr.1 ∷ []
 
 abbrev pub browse_rows : List Row
 browse_rows =

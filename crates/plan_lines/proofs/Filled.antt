@@ -1,22 +1,18 @@
 -- What the words behind a name fill, and what is wrong with them: from six numbers what rules_plan tells of the words.
 -- Assumes nothing.
-use Prim.Native.Nat.{ℕ, zero, suc, ◌-◌, ◌≤◌}
+use Prim.Native.Nat.{ℕ, zero, suc, ◌≤◌}
 use native.Mathlib.Omega.{arith}
-use mathlib.Core.Bool.{Bool, and-eq-true_iff, cond, false, not, true, ◌&&◌, ◌||◌}
 use mathlib.Core.List.{List, [], ◌∷◌}
 use mathlib.Core.Path.{◌≡◌, ap, refl, sym, ◌∙◌}
-use borrow.Author.Tests.{leb-true}
-use lib.Dec.{eqb, leb}
-use lib.ListN.{get_or-eq_default, get_or, length}
-use Rattle.plan_lines.specs.Behind.{any_report, as_byte, as_sixteen_bits, filled_by, filled_each}
-use Rattle.plan_lines.specs.Behind.{first_most, first_number, number_fault_of}
-use Rattle.plan_lines.specs.Behind.{rest, setting_by, six_faults, six_mosts, six_numbers}
-use Rattle.plan_lines.proofs.Numbered.{first_up_to, next_fault, no_more}
+use lib.Dec.{eqb}
+use lib.ListN.{get_or-eq_default, get_or}
+use Rattle.plan_lines.specs.Behind.{as_byte, as_sixteen_bits, filled_by, filled_each}
+use Rattle.plan_lines.specs.Behind.{first_number}
+use Rattle.plan_lines.specs.Behind.{rest, setting_by, six_numbers}
+use Rattle.plan_lines.proofs.Numbered.{first_up_to}
 use Rattle.rules.specs.OfEachKind.{clock, condition, failed, freed, normalised, occupied, report, restored}
 use Rattle.rules.specs.Screen.{or_else, our_number}
-use Rattle.rules.specs.Words.{within, ◌if◌then◌, ◌▷◌}
-use Rattle.rules.specs.declared.Report.{Report}
-use Rattle.rules_plan.specs.Lines.{all_mosts, byte_at, mosts, number_at, numbers_of, words_fault}
+use Rattle.rules_plan.specs.Lines.{byte_at, number_at, numbers_of}
 
 -- ---- by the name
 

@@ -1,13 +1,13 @@
 -- The most that each number behind a name may be: by tests of the name what the table says, for each name;
 -- and what each name of the table keeps.
 -- Assumes nothing.
-use Prim.Native.Nat.{ℕ, suc, ◌<◌}
-use mathlib.Core.Bool.{Bool, cond, false, not, true, ◌&&◌, ◌||◌}
+use Prim.Native.Nat.{ℕ, ◌<◌}
+use mathlib.Core.Bool.{Bool, cond, false, ◌&&◌, ◌||◌}
 use mathlib.Core.List.{List, [], ◌∷◌}
 use mathlib.Core.Path.{◌≡◌, refl}
 use lib.Dec.{eqb, leb}
 use Rattle.plan_lines.specs.Behind.{six_mosts}
-use Rattle.plan_lines.proofs.Matching.{all_below_lem, all_below, same_true}
+use Rattle.plan_lines.proofs.Matching.{all_below_lem, same_true}
 use Rattle.rules.specs.Screen.{same}
 use Rattle.rules_plan.specs.Lines.{mosts}
 

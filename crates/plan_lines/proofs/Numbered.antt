@@ -9,7 +9,7 @@ use borrow.Author.Tests.{leb-true, lt-leb, ne_eqb}
 use lib.Dec.{eqb, leb}
 use lib.ListN.{drop, get_or, take}
 use Rattle.digits.proofs.Counted.{ours_up_to}
-use Rattle.plan_lines.specs.Behind.{first_most, first_number, number_fault_of, rest}
+use Rattle.plan_lines.specs.Behind.{first_number, number_fault_of, rest}
 use Rattle.plan_lines.specs.Spans.{NextWord}
 use Rattle.rules.specs.Screen.{is_empty, is_there, number_after, or_else, our_number, provided}
 use Rattle.rules.specs.Words.{any, ◌if◌then◌, ◌▷◌}

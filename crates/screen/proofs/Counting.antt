@@ -1,20 +1,18 @@
 -- Our numbers at the head of a text and at a place.
 -- Assumes nothing.
-use Prim.Native.Nat.{ℕ, zero, suc, ◌+◌, ◌-◌, ◌*◌, ◌≤◌, ◌<◌}
-use mathlib.Core.Bool.{Bool, and-false, cond, false, false≢true, not, true, ◌&&◌, ◌||◌}
+use Prim.Native.Nat.{ℕ, zero, suc, ◌+◌, ◌-◌, ◌≤◌}
+use mathlib.Core.Bool.{Bool, cond, false, false≢true, not, true, ◌&&◌, ◌||◌}
 use mathlib.Core.List.{List, [], ◌∷◌}
 use mathlib.Core.Option.{none}
 use mathlib.Core.Path.{◌≡◌, ap, refl, sym, ◌∙◌}
-use native.Mathlib.Numerals.{add-one}
 use native.Mathlib.Omega.{arith}
-use borrow.Author.Tests.{eqb-true, leb-false, le-leb, lt-leb, ne_eqb}
+use borrow.Author.Tests.{eqb-true, ne_eqb}
 use lib.Dec.{eqb, leb}
-use lib.ListN.{drop, drop_of_length-le, get_or, length, length-drop, take}
-use lib.Seq.{drop-cons}
+use lib.ListN.{drop, length, length-drop, take}
 use Rattle.digits.proofs.Counted.{no_digit, ours_up_to}
 use Rattle.json_reader.proofs.Nested.{scalar_value}
 use Rattle.json_reader.proofs.Places.{first_behind, taken_in_text}
-use Rattle.rules.specs.Screen.{is_empty, number_after, number_of, number_text, or_else, our_number, provided}
+use Rattle.rules.specs.Screen.{number_after, number_of, number_text, or_else, our_number, provided}
 use Rattle.rules.specs.Words.{any}
 use Rattle.rules_json.specs.Grammar.{digit}
 use Rattle.rules_json.specs.Reader.{at, number_size, scalar_said, scalar_size, value_said, value_size}

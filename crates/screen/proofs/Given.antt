@@ -6,7 +6,7 @@ use mathlib.Core.List.{List, []}
 use mathlib.Core.Option.{Option, none, some}
 use mathlib.Core.Path.{◌≡◌, ap, refl, sym, ◌∙◌}
 use native.Mathlib.Omega.{arith}
-use borrow.Author.Tests.{eq-eqb, eqb-false, eqb-true, leb-true, ne_eqb, not-false, not-true}
+use borrow.Author.Tests.{eq-eqb, eqb-false, eqb-true, leb-true, ne_eqb}
 use lib.Dec.{eqb, leb}
 use lib.ListN.{drop, length}
 use Rattle.json_reader.proofs.Cases.{both, within_true}
@@ -139,10 +139,10 @@ module _ {text : List ℕ} {members : List (Member (Tree 7))} {places : OurPlace
       shown_is = et ∙ ap shown_of (sym tracks_in_lem)
 
       -- the test that the code makes
-      abbrev pub bad : Bool
-      bad = not (leb station 65535 && leb aspect 5 && not (eqb shown.count 0))
+      abbrev pub good : Bool
+      good = leb station 65535 && leb aspect 5 && not (eqb shown.count 0)
 
-      all_are : {t : Bool} → leb station 65535 && leb aspect 5 && not (eqb shown.count 0) ≡ t → all_there members ≡ t
+      all_are : {t : Bool} → good ≡ t → all_there members ≡ t
       unfolding shown_of
       all_are e =
           (λ i. is_there (station_in_lem i) && is_there (aspect_in_lem i) && is_there (tracks_in_lem i))
@@ -152,13 +152,13 @@ module _ {text : List ℕ} {members : List (Member (Tree 7))} {places : OurPlace
           ∙ ap (λ (s : Shown). not (eqb s.count 0)) (sym et)) i)
           ∙ e
 
-      pub member_bad : bad ≡ true → {r : Received} → r ≡ record { answer = 16; message = no_message }
+      pub member_bad : good ≡ false → {r : Received} → r ≡ record { answer = 16; message = no_message }
           → r ≡ given_back (member_answer members) members
-      member_bad e = bad_member_lem members (all_are (not-true _ e))
+      member_bad e = bad_member_lem members (all_are e)
 
-      module _ (e : bad ≡ false) where
+      module _ (e : good ≡ true) where
         tests : (leb station 65535 && leb aspect 5 ≡ true) × (not (eqb shown.count 0) ≡ true)
-        tests = both (leb station 65535 && leb aspect 5) (not (eqb shown.count 0)) (not-false _ e)
+        tests = both (leb station 65535 && leb aspect 5) (not (eqb shown.count 0)) e
 
         station_fits : leb station 65535 ≡ true
         station_fits = (both (leb station 65535) (leb aspect 5) tests.0).0
@@ -187,4 +187,4 @@ module _ {text : List ℕ} {members : List (Member (Tree 7))} {places : OurPlace
                 digits = (shown_is i).digits;
               };
             })
-            ∙ ap (λ n. given_back n members) (sym (answer_by members (all_are (not-false _ e))))
+            ∙ ap (λ n. given_back n members) (sym (answer_by members (all_are e)))

@@ -1,11 +1,11 @@
 -- Hexadecimal digits of either case: each way through `stands_for`, and four of them that say a number of ASCII.
 -- Assumes nothing.
 use Prim.Native.Nat.{ℕ, ◌+◌, ◌-◌, ◌*◌, ◌/◌, ◌%◌, ◌≤◌, ◌<◌}
-use mathlib.Core.Bool.{Bool, cond, false, false≢true, not, true, ◌&&◌, ◌||◌}
+use mathlib.Core.Bool.{Bool, cond, false, false≢true, true, ◌&&◌, ◌||◌}
 use mathlib.Core.List.{List}
 use mathlib.Core.Path.{◌≡◌, ap, refl, subst, sym, ◌∙◌}
 use native.Mathlib.Omega.{arith}
-use borrow.Author.Tests.{eq-eqb, eqb-true, ne_eqb, not-false, not-true}
+use borrow.Author.Tests.{eq-eqb, eqb-true, ne_eqb}
 use lib.Dec.{eqb}
 use Rattle.json_reader.proofs.Cases.{all_four, both, within_true}
 use Rattle.json_reader.proofs.CharacterSizes.{four}
@@ -100,11 +100,11 @@ module _ {found b : ℕ} {r : Bool} (n : ℕ) (f : found ≡ b) (e : r ≡ stand
   tells : r ≡ stands_for b n
   tells = e ∙ ap (λ k. stands_for k n) f
 
-  pub is_digit : not r ≡ false → stands_for b n ≡ true
-  is_digit h = sym tells ∙ not-false r h
+  pub is_digit : r ≡ true → stands_for b n ≡ true
+  is_digit h = sym tells ∙ h
 
-  pub not_digit : not r ≡ true → stands_for b n ≡ true → ⊥
-  not_digit h s = false≢true (sym (not-true r h) ∙ tells ∙ s)
+  pub not_digit : r ≡ false → stands_for b n ≡ true → ⊥
+  not_digit h s = false≢true (sym h ∙ tells ∙ s)
 
 -- ---- four digits that say a number of ASCII
 

@@ -4,7 +4,7 @@ use Prim.Native.Nat.{◌-◌, ◌*◌, ◌≤◌}
 use native.Mathlib.Omega.{arith}
 use mathlib.Core.Path.{◌≡◌, sym, ap, ◌∙◌}
 use mathlib.Core.Bool.{Bool, true, false, not, ◌&&◌}
-use borrow.Author.Tests.{le-leb, leb-true, not-false, not-true}
+use borrow.Author.Tests.{le-leb, leb-true, not-true}
 use lib.Dec.{leb, ltb}
 use lib.ListN.{drop, length, length-drop, take}
 use lib.Seq.{take_all}
@@ -40,9 +40,9 @@ fits_so m e =
 abbrev pub in_range : Message → Bool
 in_range m = leb m.aspect 5 && within 1 4 m.tracks
 
-pub few : (m : Message) → not (in_range m) ≡ false → m.tracks ≤ 4
+pub few : (m : Message) → in_range m ≡ true → m.tracks ≤ 4
 few m e =
-    let tracks = (both (leb m.aspect 5) (within 1 4 m.tracks) (not-false (in_range m) e)).1 in
+    let tracks = (both (leb m.aspect 5) (within 1 4 m.tracks) e).1 in
     leb-true m.tracks 4 (both (leb 1 m.tracks) (leb m.tracks 4) tracks).1
 
 module _ (m : Message) (station : m.station ≤ 65535) where
@@ -59,15 +59,15 @@ module _ (m : Message) (station : m.station ≤ 65535) where
       (le-leb m.station 65535 station)
       ∙ ap (λ (b : Bool). b && not wrong && not beyond) e
 
-  pub out_of_range : not (in_range m) ≡ true → false ≡ message_fits m
-  out_of_range e = sym (as_tested false (not-true _ e))
+  pub out_of_range : in_range m ≡ false → false ≡ message_fits m
+  out_of_range e = sym (as_tested false e)
 
   -- and then the digits, those of the tracks that are not there in a part that ends where they end
-  pub digits_tested : {w b : Bool} → not (in_range m) ≡ false → length m.digits ≡ 20
+  pub digits_tested : {w b : Bool} → in_range m ≡ true → length m.digits ≡ 20
       → w ≡ wrong
       → b ≡ any (ltb 0) (take (20 - 5 * m.tracks) (drop (5 * m.tracks) m.digits))
       → not w && not b ≡ message_fits m
   digits_tested e twenty ew eb =
       let rest = drop (5 * m.tracks) m.digits in
       let all = take_all (20 - 5 * m.tracks) rest (omega (arith, length-drop (5 * m.tracks) m.digits)) in
-      (λ i. not (ew i) && not ((eb ∙ ap (any (ltb 0)) all) i)) ∙ sym (as_tested true (not-false _ e))
+      (λ i. not (ew i) && not ((eb ∙ ap (any (ltb 0)) all) i)) ∙ sym (as_tested true e)

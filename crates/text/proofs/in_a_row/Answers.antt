@@ -1,7 +1,6 @@
 -- `in_a_row`: the five texts, each placed past the one before (`further`), are the whole at the start of the buffer.
 use native.Mathlib.Omega.{arith}
 use lib.ListN.{length-append}
-use borrow.Author.Rules.{rules}
 use Rattle.text.proofs.Placing.{fitted, further, start, told, unfitted}
 use Rattle.text.proofs.in_a_row.Goals as goal
 

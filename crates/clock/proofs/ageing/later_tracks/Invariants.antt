@@ -1,14 +1,8 @@
-use Prim.Native.Nat.{◌≤◌, ◌<◌, ◌-◌}
-use mathlib.Core.Path.{◌≡◌, refl, sym, ap, ◌∙◌}
-use mathlib.Core.Logic.{⊎_elim}
-use mathlib.Core.List.{[]}
-use lib.ListN.{length, length-set}
-use borrow.Author.Rules.{rules}
-use native.Mathlib.Omega.{arith}
-use Rattle.clock.proofs.FreeTracks.{no_later}
+use Prim.Native.Nat.{◌≤◌, ◌-◌}
+use mathlib.Core.Path.{◌≡◌}
+use lib.ListN.{length}
 use Rattle.clock.specs.Ages.{later_track}
-use Rattle.islands.proofs.Below.{changed, changed_least, changed_next, changed_skip}
-use Rattle.islands.proofs.Listed.{counted}
+use Rattle.islands.proofs.Below.{changed}
 use Rattle.clock.proofs.ageing.later_tracks.Given as goal
 
 abbrev pub invariant-loop-j : goal.invariant-loop-j

@@ -1,5 +1,4 @@
 -- `hold_after`: after i ticks the hold is the one of i ticks, and the condition is the one then.
-use Prim.Native.Nat.{◌≤◌, ◌-◌}
 use mathlib.Core.Path.{◌≡◌, refl, ap, ◌∙◌}
 use borrow.Author.Rules.{rules}
 use native.Mathlib.Omega.{arith}

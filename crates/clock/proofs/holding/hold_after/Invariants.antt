@@ -1,10 +1,7 @@
 use Prim.Native.Nat.{◌≤◌, ◌-◌}
-use mathlib.Core.Path.{◌≡◌, refl, ap, ◌∙◌}
-use borrow.Author.Rules.{rules}
-use native.Mathlib.Omega.{arith}
+use mathlib.Core.Path.{◌≡◌}
 use Rattle.clock.specs.Hold.{hold_after}
 use Rattle.clock.specs.Timetable.{risk_at}
-use Rattle.clock.proofs.ByTimetable.{hold_more}
 use Rattle.clock.proofs.holding.hold_after.Given as goal
 
 abbrev pub invariant-loop-i : goal.invariant-loop-i

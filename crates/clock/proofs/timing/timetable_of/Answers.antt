@@ -1,7 +1,6 @@
 -- `timetable_of`: after j tracks the timetable is that of the first j; a free track adds nothing.
-use Prim.Native.Nat.{◌+◌, ◌≤◌, ◌<◌, ◌-◌}
+use Prim.Native.Nat.{◌+◌, ◌<◌}
 use mathlib.Core.Path.{◌≡◌, subst, sym, ◌∙◌}
-use mathlib.Core.Logic.{⊎_elim}
 use mathlib.Core.List.{List, []}
 use lib.ListN.{length, take}
 use borrow.Author.Rules.{rules}
@@ -30,13 +29,16 @@ loop-j-preserved c = let k = c.loop-j in
     let len : length a.tracks ≡ 4 = search (rules, counted) in
     let below : k.j < length a.tracks = omega arith in (
       search rules,
-      elim c.if-busy.branch [ then-busy w ↦ timed_next a.settings a.tracks k.j (record { islands = [] })
-          _ _ _ (timers a.settings (search rules) (search rules) (search rules)) (search rules) below
-          k.invariant.1
-          w.turns_of.ensures
-          (w.table-is ∙ w.with_turns-table.ensures) | else-busy w ↦ subst (Timed a.settings (take (k.j + 1) a.tracks)) (sym w.table-is)
-          (timed_skip a.settings a.tracks k.j (record { islands = [] }) _ below
-          (sym c.some_occupied-busy.ensures ∙ w.if-busy.false) k.invariant.1) ],
+      elim c.if-busy.branch [
+        | then-busy w ↦ timed_next a.settings a.tracks k.j (record { islands = [] })
+            _ _ _ (timers a.settings (search rules) (search rules) (search rules)) (search rules) below
+            k.invariant.1
+            w.turns_of.ensures
+            (w.table-is ∙ w.with_turns-table.ensures)
+        | else-busy w ↦ subst (Timed a.settings (take (k.j + 1) a.tracks)) (sym w.table-is)
+            (timed_skip a.settings a.tracks k.j (record { islands = [] }) _ below
+            (sym c.some_occupied-busy.ensures ∙ w.if-busy.false) k.invariant.1)
+      ],
     )
 
 pub returns : goal.returns

@@ -1,5 +1,4 @@
 -- `join`: the greater and the lesser, field by field.
-use borrow.Author.Rules.{rules}
 use Rattle.clock.proofs.turning.join.Goals as goal
 
 pub returns : goal.returns
@@ -7,5 +6,4 @@ returns c = λ k. record {
   fresh = c.greater.ensures k;
   present = c.lesser.ensures k;
   late = c.lesser-2.ensures k;
-
 }

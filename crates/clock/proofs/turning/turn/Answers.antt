@@ -1,7 +1,6 @@
 -- `turn`: a free island never turns; else what each choice ensures, put together.
 use Rattle.clock.proofs.Turned.{turn_free, turn_made}
 use borrow.Author.Tests.{not-true, not-false}
-use borrow.Author.Rules.{rules}
 use Rattle.clock.proofs.turning.turn.Goals as goal
 
 pub returns-then-not-island : goal.returns-then-not-island

@@ -1,6 +1,5 @@
 -- `turns_of_five`: what `turn` ensures of each island, joined.
 use Rattle.clock.proofs.Turned.{turns_of_seen}
-use borrow.Author.Rules.{rules}
 use Rattle.clock.proofs.turning.turns_of_five.Goals as goal
 
 pub returns : goal.returns

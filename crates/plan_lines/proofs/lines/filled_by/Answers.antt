@@ -1,7 +1,6 @@
 -- `filled_by`: a setting, or a report.
 use mathlib.Core.Path.{◌∙◌}
 use Rattle.plan_lines.proofs.Filled.{filled_setting}
-use borrow.Author.Rules.{rules}
 use Rattle.plan_lines.proofs.lines.filled_by.Goals as goal
 
 pub returns-then-name-le-T5 : goal.returns-then-name-le-T5

@@ -4,7 +4,6 @@ use lib.ListN.{take}
 use lib.Seq.{length-take-le}
 use Rattle.plan_lines.proofs.Spanned.{to_the_end}
 use Rattle.plan_lines.proofs.Spoken.{nothing_said_lem, something_said, spoken_is}
-use borrow.Author.Rules.{rules}
 use Rattle.plan_lines.proofs.lines.line_in.Goals as goal
 
 pub slice_bounds-spoken-end : goal.slice_bounds-spoken-end

@@ -1,7 +1,6 @@
 -- `line_said`: six numbers, what is wrong with them, and what they fill.
 use Rattle.plan_lines.proofs.Spoken.{line_said_lem, six_read}
 use Rattle.rules_plan.specs.Words.{words}
-use borrow.Author.Rules.{rules}
 use Rattle.plan_lines.proofs.lines.line_said.Goals as goal
 
 pub returns : goal.returns

@@ -1,13 +1,9 @@
 -- `report_of`: a report of the kind that the name says.
 use Prim.Native.Nat.{ℕ, ◌≤◌}
-use mathlib.Core.List.{List}
 use mathlib.Core.Path.{◌≡◌, ap, sym, ◌∙◌}
-use lib.ListN.{get_or}
-use native.Mathlib.Omega.{arith}
-use Rattle.plan_lines.specs.Behind.{as_byte, as_sixteen_bits, filled_by}
+use Rattle.plan_lines.specs.Behind.{filled_by}
 use Rattle.plan_lines.proofs.Filled.{filled_other, past}
 use Rattle.rules.specs.OfEachKind.{clock, condition, failed, freed, occupied, report, restored}
-use borrow.Author.Rules.{rules}
 use Rattle.plan_lines.proofs.lines.report_of.Goals as goal
 use Rattle.plan_lines.proofs.lines.report_of.Goals.{After-sixteen_bits-number, In_default}
 

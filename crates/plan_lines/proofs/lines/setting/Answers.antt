@@ -1,4 +1,3 @@
-use borrow.Author.Rules.{rules}
 use Rattle.plan_lines.proofs.lines.setting.Goals as goal
 
 pub returns-then-of_tracks : goal.returns-then-of_tracks

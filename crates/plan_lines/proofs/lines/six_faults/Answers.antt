@@ -1,6 +1,5 @@
 use Rattle.plan_lines.proofs.Numbered.{or_else_lem}
 use Rattle.plan_lines.specs.Behind.{six_faults}
-use borrow.Author.Rules.{rules}
 use Rattle.plan_lines.proofs.lines.six_faults.Goals as goal
 
 pub returns : goal.returns

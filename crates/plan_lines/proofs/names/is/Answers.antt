@@ -1,10 +1,8 @@
 -- `is`: what is left of the word is the same as what is left of the name where all is.
-use Prim.Native.Nat.{◌≤◌, ◌-◌}
-use mathlib.Core.Path.{◌≡◌, refl, sym, ◌∙◌}
+use mathlib.Core.Path.{refl, sym, ◌∙◌}
 use native.Mathlib.Omega.{arith}
 use borrow.Author.Rules.{rules}
-use lib.ListN.{length}
-use Rattle.plan_lines.proofs.Matching.{AlikeFrom, same_not, same_on, same_over, same_unlike}
+use Rattle.plan_lines.proofs.Matching.{same_not, same_on, same_over, same_unlike}
 use Rattle.rules_plan.specs.Words.{lower}
 use Rattle.plan_lines.proofs.names.is.Goals as goal
 
@@ -25,10 +23,10 @@ returns-then-lower-name c = let a = c.args in
 
 pub loop-place-preserved : goal.loop-place-preserved
 loop-place-preserved c = let a = c.args in (
-      search rules,
-      same_on lower a.word.now a.name.now c.loop-place.place c.loop-place.invariant.1 c.if-word-name.false
-          c.loop-place-test.true (sym c.lower.ensures ∙ c.if-lower-name.false),
-    )
+  search rules,
+  same_on lower a.word.now a.name.now c.loop-place.place c.loop-place.invariant.1 c.if-word-name.false
+      c.loop-place-test.true (sym c.lower.ensures ∙ c.if-lower-name.false),
+)
 
 pub returns : goal.returns
 returns c = let a = c.args in

@@ -1,9 +1,6 @@
 use Prim.Native.Nat.{◌≤◌, ◌-◌}
-use mathlib.Core.Path.{◌≡◌, refl, sym, ◌∙◌}
-use native.Mathlib.Omega.{arith}
-use borrow.Author.Rules.{rules}
 use lib.ListN.{length}
-use Rattle.plan_lines.proofs.Matching.{AlikeFrom, same_not, same_on, same_over, same_unlike}
+use Rattle.plan_lines.proofs.Matching.{AlikeFrom}
 use Rattle.rules_plan.specs.Words.{lower}
 use Rattle.plan_lines.proofs.names.is.Given as goal
 

@@ -5,7 +5,6 @@ use lib.ListN.{take}
 use Rattle.plan_lines.specs.Names.{place_from}
 use Rattle.plan_lines.proofs.Naming.{name_from}
 use Rattle.rules_plan.specs.Words.{lower, names}
-use borrow.Author.Rules.{rules}
 use Rattle.plan_lines.proofs.names.name_of.Goals as goal
 
 pub returns : goal.returns

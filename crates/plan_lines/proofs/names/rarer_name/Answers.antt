@@ -1,4 +1,3 @@
-use borrow.Author.Rules.{rules}
 use Rattle.plan_lines.proofs.names.rarer_name.Goals as goal
 
 pub returns : goal.returns

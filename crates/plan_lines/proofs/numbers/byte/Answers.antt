@@ -1,7 +1,6 @@
 -- `byte`: a number up to the most, and 0 for a greater one.
 use borrow.Author.Tests.{le-leb, lt-leb}
 use Rattle.plan_lines.specs.Behind.{as_byte}
-use borrow.Author.Rules.{rules}
 use Rattle.plan_lines.proofs.numbers.byte.Goals as goal
 
 pub returns-then-number-le-BYTE : goal.returns-then-number-le-BYTE

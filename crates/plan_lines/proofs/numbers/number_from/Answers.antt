@@ -1,7 +1,6 @@
 -- `number_from`: the next word's number, and none where there is no word.
 use mathlib.Core.Path.{◌∙◌}
 use Rattle.plan_lines.proofs.Numbered.{none_from, number_from}
-use borrow.Author.Rules.{rules}
 use Rattle.plan_lines.proofs.numbers.number_from.Goals as goal
 
 pub returns-then-start-past : goal.returns-then-start-past

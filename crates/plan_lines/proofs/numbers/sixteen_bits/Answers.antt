@@ -1,7 +1,6 @@
 -- `sixteen_bits`: a number up to the most, and 0 for a greater one.
 use borrow.Author.Tests.{le-leb, lt-leb}
 use Rattle.plan_lines.specs.Behind.{as_sixteen_bits}
-use borrow.Author.Rules.{rules}
 use Rattle.plan_lines.proofs.numbers.sixteen_bits.Goals as goal
 
 pub returns-then-number-le-SIXTEEN_BITS : goal.returns-then-number-le-SIXTEEN_BITS

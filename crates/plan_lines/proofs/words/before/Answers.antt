@@ -1,11 +1,8 @@
-use Prim.Native.Nat.{◌≤◌, ◌-◌}
 use mathlib.Core.Bool.{not}
-use mathlib.Core.Path.{◌≡◌, ap}
+use mathlib.Core.Path.{ap}
 use native.Mathlib.Omega.{arith}
 use borrow.Author.Rules.{rules}
-use lib.Dec.{eqb}
-use lib.ListN.{length}
-use Rattle.plan_lines.proofs.Running.{Passed, run_begins, run_ended, run_on, run_over}
+use Rattle.plan_lines.proofs.Running.{run_begins, run_ended, run_on, run_over}
 use Rattle.plan_lines.proofs.words.before.Goals as goal
 
 pub loop-count-init : goal.loop-count-init

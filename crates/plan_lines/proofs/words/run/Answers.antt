@@ -1,13 +1,9 @@
 -- `run`: those passed are as wanted, and so is what comes first of what is left.
-use Prim.Native.Nat.{◌≤◌, ◌-◌}
-use mathlib.Core.Path.{◌≡◌, ap, sym, ◌∙◌}
+use mathlib.Core.Path.{ap, sym, ◌∙◌}
 use native.Mathlib.Omega.{arith}
 use borrow.Author.Rules.{rules}
-use borrow.Author.Tests.{not-false, not-true}
-use lib.ListN.{length}
 use Rattle.plan_lines.specs.Leading.{is_or_not}
-use Rattle.plan_lines.proofs.Running.{Passed, run_begins, run_ended, run_on, run_over}
-use Rattle.rules_plan.specs.Words.{blank}
+use Rattle.plan_lines.proofs.Running.{run_begins, run_ended, run_on, run_over}
 use Rattle.plan_lines.proofs.words.run.Goals as goal
 
 pub loop-count-init : goal.loop-count-init

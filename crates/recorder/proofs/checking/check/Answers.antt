@@ -1,10 +1,8 @@
 -- `check`: before each turn what the text from there on gives, after what was said, is what the whole text gives.
-use Prim.Native.Nat.{◌+◌, ◌-◌, ◌≤◌, ◌<◌}
 use native.Mathlib.Numerals.{add-one}
 use native.Mathlib.Omega.{arith}
-use mathlib.Core.Path.{◌≡◌, ap}
-use borrow.Author.Rules.{rules}
-use lib.ListN.{drop, length}
+use mathlib.Core.Path.{ap}
+use lib.ListN.{drop}
 use Rattle.recorder.proofs.CheckedOn.{checked_on, checked_whole, stopped}
 use Rattle.recorder.proofs.OneLineMore.{one_report_more}
 use Rattle.rules_plan.specs.Faults.{checked, checked_from, nothing_said}

@@ -1,14 +1,8 @@
 use Prim.Native.Nat.{◌+◌, ◌-◌, ◌≤◌, ◌<◌}
-use native.Mathlib.Numerals.{add-one}
-use native.Mathlib.Omega.{arith}
-use mathlib.Core.Path.{◌≡◌, ap}
-use borrow.Author.Rules.{rules}
+use mathlib.Core.Path.{◌≡◌}
 use lib.ListN.{drop, length}
-use Rattle.recorder.proofs.CheckedOn.{checked_on, checked_whole, stopped}
-use Rattle.recorder.proofs.OneLineMore.{one_report_more}
-use Rattle.rules_plan.specs.Faults.{checked, checked_from, nothing_said}
-use Rattle.rules_plan.specs.Words.{lines, unmarked}
-use Rattle.rules_plan.specs.declared.Said.{Said}
+use Rattle.rules_plan.specs.Faults.{checked, checked_from}
+use Rattle.rules_plan.specs.Words.{lines}
 use Rattle.recorder.proofs.checking.check.Given as goal
 
 abbrev pub invariant-loop-at : goal.invariant-loop-at

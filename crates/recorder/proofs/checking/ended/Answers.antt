@@ -3,7 +3,6 @@ use mathlib.Core.Bool.{not}
 use mathlib.Core.Path.{sym, ap, ◌∙◌}
 use Rattle.recorder.proofs.LineFaults.{at_end}
 use Rattle.rules.specs.Words.{◌if◌then◌}
-use borrow.Author.Rules.{rules}
 use Rattle.recorder.proofs.checking.ended.Goals as goal
 
 pub returns-then-all_given : goal.returns-then-all_given

@@ -1,7 +1,6 @@
 -- `line_fault`: by its words, as a setting, as a report, or neither.
 use mathlib.Core.Path.{sym, ◌∙◌}
 use Rattle.recorder.proofs.LineFaults.{by_words, of_neither, of_report_lem, of_setting}
-use borrow.Author.Rules.{rules}
 use Rattle.recorder.proofs.checking.line_fault.Goals as goal
 
 pub returns-then-found-ne-UNDERSTOOD : goal.returns-then-found-ne-UNDERSTOOD

@@ -4,7 +4,6 @@ use mathlib.Core.Path.{refl, sym, ap, ◌∙◌}
 use borrow.Author.Tests.{le-leb, lt-leb}
 use Rattle.chains.proofs.Chains.{passes, refuses}
 use Rattle.recorder.specs.ByName.{report_fault}
-use borrow.Author.Rules.{rules}
 use Rattle.recorder.proofs.checking.report_fault.Goals as goal
 
 pub returns-then-not-all_given : goal.returns-then-not-all_given

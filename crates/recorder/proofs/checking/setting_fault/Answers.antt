@@ -7,7 +7,6 @@ use Rattle.chains.proofs.Chains.{passes, refuses}
 use Rattle.recorder.proofs.LineFaults.{early, tested}
 use Rattle.recorder.specs.ByName.{setting_fault}
 use Rattle.rules.specs.Words.{◌if◌then◌}
-use borrow.Author.Rules.{rules}
 use Rattle.recorder.proofs.checking.setting_fault.Goals as goal
 use Rattle.recorder.proofs.checking.setting_fault.Goals.{After-within_limits}
 

@@ -2,7 +2,6 @@
 use mathlib.Core.Bool.{false≢true}
 use mathlib.Core.Path.{sym, ◌∙◌}
 use native.Mathlib.Numerals.{add-one}
-use borrow.Author.Tests.{not-false, not-true}
 use Rattle.recorder.proofs.FilledOn.{entered_after, none_put, not_entered, put_down}
 use borrow.Author.Rules.{rules}
 use Rattle.recorder.proofs.filling.enter.Goals as goal

@@ -1,11 +1,10 @@
 -- `fill`: before each turn what the lines from there on make of the register and of the list is what all lines make
 -- of them.
-use Prim.Native.Nat.{ℕ, ◌+◌, ◌-◌, ◌≤◌, ◌<◌}
+use Prim.Native.Nat.{ℕ}
 use native.Mathlib.Numerals.{add-one}
 use native.Mathlib.Omega.{arith}
-use mathlib.Core.Path.{◌≡◌, refl, sym, ap, ◌∙◌}
-use borrow.Author.Rules.{rules}
-use lib.ListN.{drop, length}
+use mathlib.Core.Path.{refl, sym, ap, ◌∙◌}
+use lib.ListN.{drop}
 use Rattle.recorder.proofs.FilledOn.{as_long, count_after_lem, filled_on, filled_whole}
 use Rattle.recorder.proofs.FilledOn.{lines_on, lines_whole, room_on}
 use Rattle.recorder.proofs.InPlain.{all_entered}

@@ -1,16 +1,9 @@
-use Prim.Native.Nat.{ℕ, ◌+◌, ◌-◌, ◌≤◌, ◌<◌}
-use native.Mathlib.Numerals.{add-one}
-use native.Mathlib.Omega.{arith}
-use mathlib.Core.Path.{◌≡◌, refl, sym, ap, ◌∙◌}
-use borrow.Author.Rules.{rules}
+use Prim.Native.Nat.{◌+◌, ◌-◌, ◌≤◌, ◌<◌}
+use mathlib.Core.Path.{◌≡◌}
 use lib.ListN.{drop, length}
-use Rattle.recorder.proofs.FilledOn.{as_long, count_after_lem, filled_on, filled_whole}
-use Rattle.recorder.proofs.FilledOn.{lines_on, lines_whole, room_on}
-use Rattle.recorder.proofs.InPlain.{all_entered}
 use Rattle.recorder.specs.AfterLine.{filling}
 use Rattle.recorder.specs.ByLine.{filled_from, lines_from}
-use Rattle.rules_plan.specs.Recording.{Filling, started_with}
-use Rattle.rules_plan.specs.Words.{lines, unmarked}
+use Rattle.rules_plan.specs.Words.{lines}
 use Rattle.recorder.proofs.filling.fill.Given as goal
 
 abbrev pub invariant-loop-at : goal.invariant-loop-at

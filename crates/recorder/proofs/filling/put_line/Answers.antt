@@ -1,7 +1,6 @@
 -- `put_line`: past the last place nothing is put.
 use mathlib.Core.Path.{sym}
 use lib.Seq.{set_out}
-use borrow.Author.Rules.{rules}
 use Rattle.recorder.proofs.filling.put_line.Goals as goal
 
 pub returns-else-row-rows : goal.returns-else-row-rows

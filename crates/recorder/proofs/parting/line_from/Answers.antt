@@ -5,5 +5,8 @@ use borrow.Author.Rules.{rules}
 use Rattle.recorder.proofs.parting.line_from.Goals as goal
 
 pub returns : goal.returns
-returns c = record { first_line = first_line _ _ _ _ _ _ c.requires c.before_line_feed.ensures.value refl c.line_in-found.ensures
-          c.next_line.ensures; at_lt_past = goes_on_lem _ _ _ _ c.requires (search rules) (search rules) c.next_line.ensures }
+returns c = record {
+  first_line = first_line _ _ _ _ _ _ c.requires c.before_line_feed.ensures.value refl c.line_in-found.ensures
+      c.next_line.ensures;
+  at_lt_past = goes_on_lem _ _ _ _ c.requires (search rules) (search rules) c.next_line.ensures;
+}

@@ -1,7 +1,6 @@
 -- `next_line`: past the line feed, or at the end.
 use native.Mathlib.Numerals.{add-one}
 use borrow.Author.Tests.{le-ltb, lt-ltb}
-use borrow.Author.Rules.{rules}
 use Rattle.recorder.proofs.parting.next_line.Goals as goal
 
 pub returns-then-end-text : goal.returns-then-end-text

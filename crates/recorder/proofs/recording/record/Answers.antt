@@ -1,5 +1,4 @@
 -- `record`: nothing of a text with a fault, and all of any other.
-use borrow.Author.Rules.{rules}
 use Rattle.recorder.proofs.Recordings.{all_recorded, bytes_recorded, lines_recorded}
 use Rattle.recorder.proofs.Recordings.{bytes_kept, lines_kept, nothing_recorded}
 use Rattle.recorder.proofs.recording.record.Goals as goal

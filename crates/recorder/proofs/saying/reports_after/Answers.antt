@@ -1,6 +1,5 @@
 -- `reports_after`: one more where there is a report.
 use native.Mathlib.Numerals.{add-one}
-use borrow.Author.Rules.{rules}
 use Rattle.recorder.proofs.saying.reports_after.Goals as goal
 
 pub returns-then-more : goal.returns-then-more

@@ -1,6 +1,5 @@
 -- `with_line`: a setting more, or a report more, or nothing.
 use Rattle.recorder.proofs.OneLineMore.{a_setting_more, another_more}
-use borrow.Author.Rules.{rules}
 use Rattle.recorder.proofs.saying.with_line.Goals as goal
 
 pub returns-then-place-lt6 : goal.returns-then-place-lt6

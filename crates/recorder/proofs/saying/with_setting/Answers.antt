@@ -1,6 +1,5 @@
 -- `with_setting`: field by field.
 use Rattle.rules_plan.specs.Faults.{with_setting}
-use borrow.Author.Rules.{rules}
 use Rattle.recorder.proofs.saying.with_setting.Goals as goal
 
 pub returns : goal.returns

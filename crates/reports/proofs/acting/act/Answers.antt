@@ -4,7 +4,6 @@ use Rattle.reports.proofs.ByNumber.{no_kind_lem}
 use Rattle.reports.proofs.Taking.{meant}
 use Rattle.rules.specs.Kinds.{Kind, kind_of}
 use Rattle.rules.specs.Reports.{acted}
-use borrow.Author.Rules.{rules}
 use Rattle.reports.proofs.acting.act.Goals as goal
 
 pub returns-in-1 : goal.returns-in-1

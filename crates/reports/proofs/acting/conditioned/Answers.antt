@@ -1,7 +1,6 @@
 -- `conditioned`: the condition changed, then the hold set.
 use mathlib.Core.Path.{ap, ◌∙◌}
 use Rattle.rules.specs.Reports.{acted, hold_set}
-use borrow.Author.Rules.{rules}
 use Rattle.reports.proofs.acting.conditioned.Goals as goal
 
 pub returns : goal.returns

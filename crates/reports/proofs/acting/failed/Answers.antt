@@ -5,7 +5,6 @@ use Rattle.reports.proofs.Taking.{named}
 use Rattle.rules.specs.Reports.{acted, detector_now, hold_set}
 use Rattle.rules.specs.Station.{with_fault}
 use Rattle.rules.specs.declared.Station.{Station}
-use borrow.Author.Rules.{rules}
 use Rattle.reports.proofs.acting.failed.Goals as goal
 
 pub returns : goal.returns

@@ -2,7 +2,6 @@
 use mathlib.Core.Path.{ap, ◌∙◌}
 use Rattle.reports.proofs.Taking.{named}
 use Rattle.rules.specs.Reports.{acted, free_now, hold_set}
-use borrow.Author.Rules.{rules}
 use Rattle.reports.proofs.acting.freed.Goals as goal
 
 pub returns : goal.returns

@@ -3,7 +3,6 @@ use mathlib.Core.Path.{ap, ◌∙◌}
 use Rattle.rules.specs.Reports.{acted, hold_set}
 use Rattle.rules.specs.Station.{with_hold}
 use Rattle.rules.specs.declared.Station.{Station}
-use borrow.Author.Rules.{rules}
 use Rattle.reports.proofs.acting.normalised.Goals as goal
 
 pub returns : goal.returns

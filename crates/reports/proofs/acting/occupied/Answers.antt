@@ -2,7 +2,6 @@
 use mathlib.Core.Path.{ap, ◌∙◌}
 use Rattle.reports.proofs.Taking.{named}
 use Rattle.rules.specs.Reports.{acted, hold_set, occupied_now}
-use borrow.Author.Rules.{rules}
 use Rattle.reports.proofs.acting.occupied.Goals as goal
 
 pub returns : goal.returns

@@ -3,7 +3,6 @@ use mathlib.Core.Path.{ap, ◌∙◌}
 use Rattle.reports.proofs.Taking.{named}
 use Rattle.rules.specs.Reports.{acted, detector_now, hold_set}
 use mathlib.Core.Bool.{false}
-use borrow.Author.Rules.{rules}
 use Rattle.reports.proofs.acting.restored.Goals as goal
 
 pub returns : goal.returns

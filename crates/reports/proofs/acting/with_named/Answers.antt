@@ -1,7 +1,6 @@
 -- `with_named`: the changed track put back.
 use mathlib.Core.Path.{ap, ◌∙◌}
 use Rattle.rules.specs.Station.{with_track}
-use borrow.Author.Rules.{rules}
 use Rattle.reports.proofs.acting.with_named.Goals as goal
 
 pub returns : goal.returns

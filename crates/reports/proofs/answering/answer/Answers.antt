@@ -1,7 +1,6 @@
 -- `answer`: the groups of tests in their order.
 use Rattle.chains.proofs.Chains.{group_passes, group_refuses}
 use Rattle.rules.specs.Answers.{answer_of}
-use borrow.Author.Rules.{rules}
 use Rattle.reports.proofs.answering.answer.Goals as goal
 
 pub returns-then-settings-ne-DONE : goal.returns-then-settings-ne-DONE

@@ -7,7 +7,6 @@ use Rattle.rules.specs.Answers.{form_answer, wrong_fields}
 use Rattle.rules.specs.Kinds.{kind_of}
 use Rattle.rules.specs.Words.{within}
 use Rattle.rules.specs.declared.Report.{Report}
-use borrow.Author.Rules.{rules}
 use Rattle.reports.proofs.answering.form_answer.Goals as goal
 use Rattle.reports.proofs.answering.form_answer.Goals.{After-wrong_fields}
 

@@ -8,7 +8,6 @@ use Rattle.rules.specs.Answers.{names_head, names_island, place_answer}
 use Rattle.rules.specs.Kinds.{kind_of}
 use Rattle.rules.specs.declared.Report.{Report}
 use Rattle.rules.specs.declared.Station.{Station}
-use borrow.Author.Rules.{rules}
 use Rattle.reports.proofs.answering.place_answer.Goals as goal
 use Rattle.reports.proofs.answering.place_answer.Goals.{After-names_island-island}
 

@@ -11,7 +11,6 @@ use Rattle.rules.specs.Station.{island_at}
 use Rattle.rules.specs.declared.Report.{Report}
 use Rattle.rules.specs.declared.Station.{Station}
 use Rattle.rules.specs.declared.Track.{Track}
-use borrow.Author.Rules.{rules}
 use Rattle.reports.proofs.answering.state_answer.Goals as goal
 use Rattle.reports.proofs.answering.state_answer.Goals.{After-already-again, After-is_obstructed-busy}
 

@@ -7,7 +7,6 @@ use Rattle.reports.proofs.ByNumber.{value_alone}
 use Rattle.rules.specs.Answers.{wrong_fields}
 use Rattle.rules.specs.Kinds.{kind_of}
 use Rattle.rules.specs.declared.Report.{Report}
-use borrow.Author.Rules.{rules}
 use Rattle.reports.proofs.answering.wrong_fields.Goals as goal
 
 -- the fields, by the number of the kind

@@ -5,7 +5,6 @@ use mathlib.Core.List.{[], ◌∷◌}
 use Prim.Native.Nat.{ℕ, ◌+◌, ◌-◌, ◌^◌}
 use lib.Bits.{bit_and}
 use lib.Dec.{eqb}
-use borrow.Author.Rules.{rules}
 use Rattle.rules.specs.Heads.{bit}
 use Rattle.rules.specs.Printer.{zero_or_one}
 use Rattle.signal.proofs.Digits.{set}

@@ -1,5 +1,4 @@
 -- `refusal_line`: with the answer 13 the entry is named (`naming`), with any other it is not (`refusal`).
-use borrow.Author.Rules.{rules}
 use Rattle.sheet.proofs.Spelling.{naming, refusal}
 use Rattle.text.proofs.Placing.{written_as}
 use Rattle.sheet.proofs.lines.refusal_line.Goals as goal

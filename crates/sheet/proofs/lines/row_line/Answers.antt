@@ -1,5 +1,4 @@
 -- `row_line`: its four columns and the line feed, one after the other, are the row's line (`row`).
-use borrow.Author.Rules.{rules}
 use Rattle.sheet.proofs.Spelling.{row}
 use Rattle.text.proofs.Placing.{written_as}
 use Rattle.sheet.proofs.lines.row_line.Goals as goal

@@ -1,5 +1,4 @@
 -- `title_line`: its five texts, one after the other, are the title.
-use borrow.Author.Rules.{rules}
 use Rattle.rules.specs.Printer.{title}
 use Rattle.sheet.proofs.lines.title_line.Goals as goal
 

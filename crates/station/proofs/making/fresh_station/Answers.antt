@@ -1,6 +1,5 @@
 -- `fresh_station`: four free tracks.
 use Rattle.rules.specs.Station.{fresh_station}
-use borrow.Author.Rules.{rules}
 use Rattle.station.proofs.making.fresh_station.Goals as goal
 
 pub returns : goal.returns

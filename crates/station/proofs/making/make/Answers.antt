@@ -1,6 +1,5 @@
 -- `make`: the settings where they are answered 0, else the least ones.
 use Rattle.station.proofs.Stations.{made_of, made_least}
-use borrow.Author.Rules.{rules}
 use Rattle.station.proofs.making.make.Goals as goal
 
 pub returns-then-answer-eq-DONE : goal.returns-then-answer-eq-DONE

@@ -2,7 +2,6 @@
 use mathlib.Core.Path.{sym, ◌∙◌}
 use Rattle.rules.specs.Station.{settings_answer}
 use Rattle.rules.specs.Words.{◌if◌then◌}
-use borrow.Author.Rules.{rules}
 use Rattle.station.proofs.making.settings_answer.Goals as goal
 
 pub returns-then-good : goal.returns-then-good

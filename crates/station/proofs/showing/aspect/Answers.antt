@@ -1,7 +1,6 @@
 -- `aspect`: both tests that put the station out of service are one; a hold above 0 is told before the tracks are looked
 -- over; otherwise the lines, over what `look_over` saw.
 use Rattle.station.proofs.ShownLaws.{holding_on, in_service, out_of_service_lem}
-use borrow.Author.Rules.{rules}
 use Rattle.station.proofs.showing.aspect.Goals as goal
 
 pub returns-then-out : goal.returns-then-out

@@ -1,6 +1,5 @@
 -- `first_line`: out of service is the first line of the rule.
 use Rattle.chains.proofs.Chains.{passes, refuses}
-use borrow.Author.Rules.{rules}
 use Rattle.station.proofs.showing.first_line.Goals as goal
 
 pub returns-then-out : goal.returns-then-out

@@ -1,10 +1,9 @@
 -- `occupied_zones`: after j tracks, the zones that one of the first j occupies.
-use Rattle.station.proofs.ShownLaws.{occupied_all, occupied_more, occupied_by}
+use Rattle.station.proofs.ShownLaws.{occupied_all, occupied_more}
 use Rattle.islands.proofs.Listed.{counted}
-use lib.ListN.{length, take}
+use lib.ListN.{length}
 use mathlib.Core.Path.{◌≡◌, refl}
 use native.Mathlib.Omega.{arith}
-use Prim.Native.Nat.{◌≤◌, ◌-◌}
 use borrow.Author.Rules.{rules}
 use Rattle.station.proofs.showing.occupied_zones.Goals as goal
 

@@ -1,10 +1,7 @@
-use Rattle.station.proofs.ShownLaws.{occupied_all, occupied_more, occupied_by}
-use Rattle.islands.proofs.Listed.{counted}
-use lib.ListN.{length, take}
-use mathlib.Core.Path.{◌≡◌, refl}
-use native.Mathlib.Omega.{arith}
+use Rattle.station.proofs.ShownLaws.{occupied_by}
+use lib.ListN.{take}
+use mathlib.Core.Path.{◌≡◌}
 use Prim.Native.Nat.{◌≤◌, ◌-◌}
-use borrow.Author.Rules.{rules}
 use Rattle.station.proofs.showing.occupied_zones.Given as goal
 
 abbrev pub invariant-loop-j : goal.invariant-loop-j

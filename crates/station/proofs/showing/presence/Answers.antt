@@ -1,7 +1,6 @@
 -- `presence`: within limits, the four tracks side by side.
 use mathlib.Core.Path.{sym, ◌∙◌}
 use mathlib.Core.List.{[], ◌∷◌}
-use borrow.Author.Rules.{rules}
 use Rattle.rules.specs.Aspect.{presence_of}
 use Rattle.station.proofs.showing.presence.Goals as goal
 

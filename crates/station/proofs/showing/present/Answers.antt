@@ -2,7 +2,6 @@
 use mathlib.Core.Path.{ap, ◌∙◌}
 use mathlib.Core.Bool.{◌&&◌}
 use lib.Dec.{ltb}
-use borrow.Author.Rules.{rules}
 use Rattle.islands.specs.Signs.{signs_of}
 use Rattle.islands.specs.declared.Signs.{Signs}
 use Rattle.station.proofs.showing.present.Goals as goal

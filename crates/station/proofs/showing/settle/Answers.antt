@@ -1,7 +1,6 @@
 -- `settle`: the hold and the aspect, from one look over the tracks.
 use mathlib.Core.Path.{refl}
 use Rattle.station.proofs.ShownLaws.{settled_is}
-use borrow.Author.Rules.{rules}
 use Rattle.station.proofs.showing.settle.Goals as goal
 
 pub returns : goal.returns

@@ -3,7 +3,6 @@ use Rattle.rules.specs.Printer.{zones_of}
 use Rattle.station.proofs.ShownLaws.{zone_digit}
 use mathlib.Core.List.{[], ◌∷◌}
 use mathlib.Core.Path.{sym, ◌∙◌}
-use borrow.Author.Rules.{rules}
 use Rattle.station.proofs.showing.zones.Goals as goal
 
 pub returns-then-good : goal.returns-then-good

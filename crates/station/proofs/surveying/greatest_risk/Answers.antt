@@ -1,7 +1,6 @@
 -- `greatest_risk`: the condition of what `look_over` saw.
 use mathlib.Core.Path.{◌∙◌, ap}
 use Rattle.station.specs.Survey.{risky}
-use borrow.Author.Rules.{rules}
 use Rattle.station.proofs.surveying.greatest_risk.Goals as goal
 
 pub returns : goal.returns

@@ -2,7 +2,6 @@
 use mathlib.Core.Path.{ap, ◌∙◌}
 use Rattle.rules.specs.Station.{with_hold}
 use Rattle.station.proofs.Stations.{held_up}
-use borrow.Author.Rules.{rules}
 use Rattle.station.proofs.surveying.hold_set.Goals as goal
 
 pub returns : goal.returns

@@ -5,11 +5,10 @@ use Rattle.islands.proofs.Listed.{counted}
 use Rattle.rules.specs.Station.{obstructed, some_failed, some_occupied}
 use Rattle.rules.specs.Words.{any}
 use Rattle.rules.specs.declared.Track.{Track}
-use Prim.Native.Nat.{◌≤◌, ◌-◌}
 use mathlib.Core.Path.{◌≡◌, refl, sym, ap, ap₂, ◌∙◌}
 use mathlib.Core.Bool.{◌||◌}
 use mathlib.Core.List.{[]}
-use lib.ListN.{length, take}
+use lib.ListN.{length}
 use borrow.Author.Rules.{rules}
 use native.Mathlib.Omega.{arith}
 use Rattle.station.proofs.surveying.is_obstructed.Goals as goal

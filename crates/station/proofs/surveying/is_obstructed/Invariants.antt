@@ -1,16 +1,8 @@
-use mathlib.Core.List.{List}
-use Rattle.islands.proofs.Below.{any_more, take_least}
-use Rattle.islands.proofs.Listed.{counted}
-use Rattle.rules.specs.Station.{obstructed, some_failed, some_occupied}
+use Rattle.rules.specs.Station.{some_failed, some_occupied}
 use Rattle.rules.specs.Words.{any}
-use Rattle.rules.specs.declared.Track.{Track}
 use Prim.Native.Nat.{◌≤◌, ◌-◌}
-use mathlib.Core.Path.{◌≡◌, refl, sym, ap, ap₂, ◌∙◌}
-use mathlib.Core.Bool.{◌||◌}
-use mathlib.Core.List.{[]}
-use lib.ListN.{length, take}
-use borrow.Author.Rules.{rules}
-use native.Mathlib.Omega.{arith}
+use mathlib.Core.Path.{◌≡◌}
+use lib.ListN.{take}
 use Rattle.station.proofs.surveying.is_obstructed.Given as goal
 
 abbrev pub invariant-loop-j : goal.invariant-loop-j

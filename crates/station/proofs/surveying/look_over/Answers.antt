@@ -1,10 +1,9 @@
 -- `look_over`: after j tracks the survey is that of the first j.
 use mathlib.Core.Path.{refl, ap, ◌∙◌}
 use Rattle.islands.proofs.Below.{take_least}
-use Prim.Native.Nat.{◌≤◌, ◌-◌}
 use mathlib.Core.List.{[]}
 use mathlib.Core.Path.{◌≡◌}
-use lib.ListN.{length, take}
+use lib.ListN.{length}
 use borrow.Author.Rules.{rules}
 use native.Mathlib.Omega.{arith}
 use Rattle.islands.proofs.Listed.{counted}

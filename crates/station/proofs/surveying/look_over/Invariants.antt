@@ -1,14 +1,7 @@
-use mathlib.Core.Path.{refl, ap, ◌∙◌}
-use Rattle.islands.proofs.Below.{take_least}
 use Prim.Native.Nat.{◌≤◌, ◌-◌}
-use mathlib.Core.List.{[]}
 use mathlib.Core.Path.{◌≡◌}
-use lib.ListN.{length, take}
-use borrow.Author.Rules.{rules}
-use native.Mathlib.Omega.{arith}
-use Rattle.islands.proofs.Listed.{counted}
+use lib.ListN.{take}
 use Rattle.station.specs.Survey.{survey_of}
-use Rattle.station.proofs.Surveys.{survey_more, bool_byte_small}
 use Rattle.station.proofs.surveying.look_over.Given as goal
 
 abbrev pub invariant-loop-j : goal.invariant-loop-j
