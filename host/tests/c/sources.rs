@@ -67,9 +67,10 @@ pub fn functions_in_c(header: &str) -> Declared {
     words.split(';').filter_map(declared).collect()
 }
 
-/// Rust and Rattle have the same comments, and attributes that say nothing of a layout.
+/// Rust and Rattle have the same comments, and attributes that say nothing of a layout, which are left out.
 fn source_words(source: &str) -> String {
-    source.lines().map(|line| line.split("//").next().unwrap_or("")).collect::<Vec<_>>().join("\n")
+    let words = source.lines().filter(|line| !line.starts_with("#[derive("));
+    words.map(|line| line.split("//").next().unwrap_or("")).collect::<Vec<_>>().join("\n")
 }
 
 /// The type behind a name: of an array, or of a number in a transparent struct.
