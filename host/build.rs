@@ -12,12 +12,12 @@ const LAYOUT: &str = "degvuurel_layout_2";
 /// The folder of an archive that stands elsewhere.
 const FOLDER: &str = "DEGVUUREL_LIB_DIR";
 
-/// A processor that the archive can be made for: the folder it is made in, the archive that is made of the same module before it, the
-/// command, and its number in an ELF file.
+/// A processor that the archive can be made for: the folder it is made in, the archive that is made of the same module before it, how
+/// it is made, and its number in an ELF file.
 struct Processor {
     folder: &'static str,
     beside: Option<&'static str>,
-    command: &'static str,
+    made: &'static str,
     number: u16,
 }
 
@@ -34,11 +34,11 @@ fn target(what: &str) -> String {
 fn processor() -> Processor {
     match (target("OS").as_str(), target("POINTER_WIDTH").as_str(), target("ENDIAN").as_str(), target("ARCH").as_str()) {
         ("linux", "64", "little", "x86_64") => {
-            Processor { folder: "../target/staticlib", beside: None, command: "rt staticlib export", number: 62 }
+            Processor { folder: "../crates/export/out", beside: None, made: "'rt lib' in crates/export", number: 62 }
         }
         ("linux", "64", "little", "aarch64") => {
             let beside = Some("../libexport.a");
-            Processor { folder: "../target/staticlib/aarch64", beside, command: "tools/archive-for-arm", number: 183 }
+            Processor { folder: "../crates/export/out/aarch64", beside, made: "'tools/archive-for-arm' on x86-64", number: 183 }
         }
         _ => wrong(&format!(
             "the proved library is for Linux on x86-64 and on 64-bit Arm, and not for {}",
@@ -80,11 +80,11 @@ fn folder(made_in: &str) -> PathBuf {
 }
 
 fn main() {
-    let Processor { folder: made_in, beside, command, number } = processor();
+    let Processor { folder: made_in, beside, made, number } = processor();
     let folder = folder(made_in);
     let archive = folder.join("libexport.a");
     println!("cargo:rerun-if-changed={}", archive.display());
-    let make = format!("make it by '{command}' in the repository's folder, or name the folder of one in {FOLDER}");
+    let make = format!("make it by {made}, or name the folder of one in {FOLDER}");
     let bytes = match fs::read(&archive) {
         Ok(bytes) => bytes,
         Err(error) if error.kind() == ErrorKind::NotFound => wrong(&format!("there is no {}: {make}", archive.display())),

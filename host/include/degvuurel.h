@@ -1,6 +1,6 @@
 /* What a class 2-A platform crossing must show, from a library whose every function is proved. For C99 and later, and C++11 and
- * later. Link with the archive libexport.a, which needs no other library: on x86-64 the one in target/staticlib/, which
- * `rt staticlib export` proves and builds; on Arm the one in target/staticlib/aarch64/, by `tools/archive-for-arm`.
+ * later. Link with the archive libexport.a, which needs no other library: on x86-64 the one in crates/export/out/, which `rt lib`
+ * in crates/export proves and builds; on Arm the one in crates/export/out/aarch64/, by `tools/archive-for-arm` on x86-64.
  *
  * Any numbers are taken, and what is wrong with them is answered by a number. This is what a caller keeps to:
  *

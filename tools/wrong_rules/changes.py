@@ -13,7 +13,7 @@ Edit = collections.namedtuple("Edit", "start end text")
 # What each operator of numbers is exchanged for.
 OPERATORS = {"+": "-*", "-": "+", "*": "+/", "/": "%*", "%": "/", "^": "*"}
 # Words that ask whether a test holds of any: how many arguments the test has.
-PREDICATES = {"any": 1, "anyIsland": 2, "anyWith": 2}
+PREDICATES = {"any": 1, "any_island": 2, "any_with": 2}
 COMPARISONS = ("eqb", "leb", "ltb")
 # What is said of the operands of the operators that write lists and groups of tests.
 SEQUENCES = {"∷": "elements of a list", "++": "parts of a list", "▷": "groups of tests"}
@@ -23,7 +23,7 @@ LIBRARY_TYPES = {
     "drop": ["ℕ", "List", "List"],
     "set": ["List", "ℕ", "Element", "List"],
     "map": ["Function", "List", "List"],
-    "getD": ["List", "ℕ", "Element", "Element"],
+    "get_or": ["List", "ℕ", "Element", "Element"],
     "suc": ["ℕ", "ℕ"],
     "min": ["ℕ", "ℕ", "ℕ"],
     "max": ["ℕ", "ℕ", "ℕ"],
@@ -31,7 +31,11 @@ LIBRARY_TYPES = {
 
 
 def bracketed(text):
-    return f"({text})" if re.search(r"\s", text) else text
+    """A text as one argument: what stands in brackets and has fields read of it, as (f x).y, needs no more of them."""
+    bare, inner = None, text
+    while bare != inner:
+        bare, inner = inner, re.sub(r"\([^()]*\)", "", inner)
+    return f"({text})" if re.search(r"\s", bare) else text
 
 
 def put(node, text):
@@ -138,7 +142,7 @@ class Changes:
     def neighbours(self, word, clause):
         """The definition before it and the one after it of the same type in its file."""
         home = self.paper.home(self.module, word)
-        if home is None or self.paper.definition(home) is None or "_" in home.word:
+        if home is None or self.paper.definition(home) is None or "◌" in home.word:
             return []
         if any(part.word == word for pattern in clause.patterns for part in pattern.walk()):  # it is a parameter here
             return []
@@ -155,7 +159,7 @@ class Changes:
     def note(self, home, words):
         """These words stand in the file of that one."""
         for word in words:
-            self.elsewhere[word] = self.paper.path_between(self.module.name, home.module)
+            self.elsewhere[word] = self.paper.path_of(home.module)
 
     # ---- fields and records
 

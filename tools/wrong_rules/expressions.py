@@ -79,11 +79,13 @@ def tokens_of(text):
 
 
 def word_tokens(word, line_start, column):
-    """The dot that ends the parameters of a λ is a word of its own."""
-    start, end = line_start + column, line_start + column + len(word)
-    if len(word) > 1 and word.endswith(".") and not word.startswith('"'):
-        return [Token(word[:-1], start, end - 1, column), Token(".", end - 1, end, column + len(word) - 1)]
-    return [Token(word, start, end, column)]
+    """The dot that ends the parameters of a λ is a word of its own, and so is each field, with the dot before it."""
+    parts = [word] if word.startswith('"') or len(word) == 1 else re.findall(r"\.?[^.]+|\.", word)
+    found = []
+    for part in parts:
+        found.append(Token(part, line_start + column, line_start + column + len(part), column))
+        column += len(part)
+    return found
 
 
 def blocks(tokens):
@@ -166,16 +168,19 @@ class Expressions:
         node = first = self.atom()
         items = [first]
         while self.peek() not in STOPS and self.peek() not in BINDING:
-            if self.peek().startswith("."):
-                field = self.take()
-                node = Node("field", first.outer_start, field.end, field.text[1:], [node], mark=field)
-                items = [node]
-            else:
-                items.append(self.atom())
-                node = Node("app", first.outer_start, items[-1].outer_end, parts=items)
+            items.append(self.atom())
+            node = Node("app", first.outer_start, items[-1].outer_end, parts=items)
         return node
 
     def atom(self):
+        """A word or what stands in brackets, with the fields that are read of it."""
+        node = self.plain_atom()
+        while len(self.peek()) > 1 and self.peek().startswith("."):
+            field = self.take()
+            node = Node("field", node.outer_start, field.end, field.text[1:], [node], mark=field)
+        return node
+
+    def plain_atom(self):
         token = self.take()
         if token.text == "(":
             node = self.whole()

@@ -4,24 +4,19 @@ import re
 
 from wrong_rules.changes import Changes
 from wrong_rules.expressions import tokens_of
-from wrong_rules.paper import file_of
+from wrong_rules.paper import file_of, operator
 
 TOLD = 10  # characters at least, by which a change is told
 
-# The files of the library that have the words which a change may say.
-LIBRARY = {
-    "lib.Dec": ["eqb", "leb", "ltb"],
-    "lib.ListN": ["take", "drop"],
-    "mathlib.Core.Bool": ["true", "false", "not", "&&", "||"],
-    "Prim.Native.Nat": ["min", "max", "+", "-", "*", "/", "%"],
-}
-LIBRARY_FILE = {word: file for file, words in LIBRARY.items() for word in words}
+# The words of the library that a change may say, all of one file.
+LIBRARY = "Rattle.std.specs.Prelude"
+LIBRARY_WORDS = "eqb leb ltb take drop true false not && || min max + - * / %".split()
 
 
 # Definitions that no row reaches: they stand in the rules of the grammar alone, which are types. The theorem that the
 # reader takes exactly the texts of the rules holds them.
 HELD_BY_THE_READER = {
-    "Grammar": ["digit1-9", "unescaped"],
+    "Grammar": ["digit1_9", "unescaped"],
     "Utf8": ["character", "following", "utf8"],
 }
 
@@ -105,8 +100,8 @@ def missing_uses(paper, module, edits, elsewhere):
     """A `use` for each word that the change says and the file has not."""
     lines = set()
     for word in {token.text for edit in edits for token in tokens_of(edit.text)}:
-        spelling = word if word.isalpha() else f"_{word}_"
-        path = LIBRARY_FILE.get(word) or elsewhere.get(word)
+        spelling = word if re.match(r"\w", word) else operator(word)
+        path = LIBRARY if word in LIBRARY_WORDS else elsewhere.get(word)
         if path and spelling not in module.used and not paper.home(module, word):
             lines.add(f"use {path}.{{{spelling}}}\n")
     return "".join(sorted(lines))

@@ -17,9 +17,14 @@ Home = collections.namedtuple("Home", "module word")  # where a word is defined
 Table = collections.namedtuple("Table", "module word in_one")
 
 
-def specs_path(crate, inside):
-    """How a `use` names a crate's definition files, in a definition file of the crate itself and in one of another."""
-    return f"Rattle·{crate}·specs.specs." if inside else f"Rattle·{crate}.specs."
+def specs_path(crate):
+    """How a `use` names a crate's definition files."""
+    return f"Rattle.{crate}.specs."
+
+
+def operator(word):
+    """How a `use` and a definition name an operator: ▷ is ◌▷◌, and its operands stand where the marks do."""
+    return "◌if◌then◌" if word == "if" else f"◌{word}◌"
 
 
 def file_of(name):
@@ -108,9 +113,9 @@ class Module:
             return
         left = split(item, "=")[0]
         right = item[len(left) + 1:]
-        operator = self.latest.name.split("_")  # _▷_ is written between its operands
-        if len(operator) > 1:
-            patterns = [Expressions([token]).atom() for token in left if token.text not in operator]
+        parts = self.latest.name.split("◌")  # ◌▷◌ is written between its operands
+        if len(parts) > 1:
+            patterns = [Expressions([token]).atom() for token in left if token.text not in parts]
         else:
             reader, patterns = Expressions(left[1:]), []
             while not reader.ended():
@@ -174,8 +179,7 @@ class Paper:
             name = file if often[file] == 1 else f"{crate}/{file}"
             self.modules[name] = Module(name, text_of(crate, "specs", file.replace(".", "/") + ".antt"))
             self.crates[name] = crate
-            for inside in (True, False):
-                self.paths[specs_path(crate, inside) + file] = name
+            self.paths[specs_path(crate) + file] = name
         self.order = [name for name in self.modules if not file_of(name).startswith("rows.")]
         self.tables = {}  # by proof file: no two crates have one of the same name
         for crate in filter(has_rows, CRATES):
@@ -191,10 +195,9 @@ class Paper:
                     found[name] = Table(self.paths[path], word, "rows" in proof.theorems)
         return found
 
-    def path_between(self, module, other):
-        """How a `use` in one definition file names another."""
-        crate = self.crates[other]
-        return specs_path(crate, crate == self.crates[module]) + file_of(other)
+    def path_of(self, other):
+        """How a `use` names a definition file."""
+        return specs_path(self.crates[other]) + file_of(other)
 
     def is_table(self, home):
         definition = self.definition(home)
@@ -202,7 +205,7 @@ class Paper:
 
     def home(self, module, word):
         """Where a word that a module says is defined; None for a word of the library or a type of lib.rt."""
-        for spelling in (word, "_if_then_" if word == "if" else f"_{word}_"):
+        for spelling in (word, operator(word)):
             if spelling in module.definitions or any(spelling in words for words in module.data.values()):
                 return Home(module.name, spelling)
             path = module.used.get(spelling)

@@ -29,7 +29,9 @@ class Prover:
             status, said = self.check(crate)
             if status != 0:
                 sys.exit(f"the crate {crate} is not proved as it stands:\n" + said)
-        shutil.copytree(os.path.join(self.root, "target"), os.path.join(self.root, "warm"))
+        for out, warm in self.kept():
+            if os.path.exists(out):
+                shutil.copytree(out, warm)
 
     def copy(self, crate, part):
         path = os.path.join("crates", crate, part)
@@ -40,9 +42,8 @@ class Prover:
         """The prover's status, and what it says of a crate, once those below it are proved."""
         try:
             done = subprocess.run(
-                ["rt", "dev", crate],
-                cwd=self.root,
-                env=dict(os.environ, RT_JOBS="1"),
+                ["rt", "check", "--jobs", "1"],
+                cwd=os.path.join(self.root, "crates", crate),
                 text=True,
                 stdout=subprocess.PIPE,
                 stderr=subprocess.STDOUT,
@@ -52,10 +53,17 @@ class Prover:
             return 124, ""
         return done.returncode, done.stdout
 
+    def kept(self):
+        """The folders of what has been checked, a crate's each, and where they are put by."""
+        for crate in CRATES:
+            yield os.path.join(self.root, "crates", crate, "out"), os.path.join(self.root, "warm", crate)
+
     def again(self):
-        """Puts the folder of what has been checked back, as it was."""
-        shutil.rmtree(os.path.join(self.root, "target"))
-        shutil.copytree(os.path.join(self.root, "warm"), os.path.join(self.root, "target"))
+        """Puts them back, as they were."""
+        for out, warm in self.kept():
+            shutil.rmtree(out, ignore_errors=True)
+            if os.path.exists(warm):
+                shutil.copytree(warm, out)
 
     def path(self, crate, name):
         return os.path.join(self.root, "crates", crate, "specs", name + ".antt")

@@ -23,13 +23,13 @@ WORDS = {
     "[]": (0, "()"),
     "length": (1, "len({})"),
     "map": (2, "each({}, {})"),
-    "getD": (3, "element({}, {}, {})"),
+    "get_or": (3, "element({}, {}, {})"),
     "set": (3, "replaced({}, {}, {})"),
     "take": (2, "first({}, {})"),
     "drop": (2, "past({}, {})"),
     "replicate": (2, "times({}, {})"),
     "len": (1, "len({})"),
-    "charAt": (2, "letter({}, {})"),
+    "char_at": (2, "letter({}, {})"),
     "code": (1, "ord({})"),
 }
 # The library's constructors, and how many parts they have.
@@ -77,7 +77,7 @@ FUNCTIONS = {
     "letter": lambda text, at: text[at] if at < len(text) else "\0",
 }
 # Sizes in a text that are asked for again and again.
-SIZES = ["blanks", "digits", "numberSize", "stringSize", "nameSize", "valueSize", "textSize"]
+SIZES = ["blanks", "digits", "number_size", "string_size", "name_size", "value_size", "text_size"]
 REMEMBERED = {Home("Reader", word) for word in SIZES}
 
 
@@ -168,7 +168,7 @@ class Coder:
 
     def lazy_places(self, home):
         """Of an operator such as ▷, the operands that it does not always ask for."""
-        if "_" not in home.word:
+        if "◌" not in home.word:
             return ()
         clause = self.paper.definition(home).clauses[0]
         asked = self.asked(clause.body)

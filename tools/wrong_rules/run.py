@@ -166,12 +166,12 @@ class Run:
 
     def named(self, theorem):
         proof, name = theorem
-        return self.labels[proof] + name.removeprefix("row-") if name.startswith("row-") else f"{proof}/{name}"
+        return self.labels[proof] + name.removeprefix("row_") if name.startswith("row_") else f"{proof}/{name}"
 
     def agrees(self, theorems, verdict):
         """Whether the prover refuses by the theorems that the rows of a verdict stand in: C1 to C14 stand in one. A table's
-        theorem no-other is no row: that no row has another name is told by `any`, which a wrong rule may be of."""
-        theorems = {theorem for theorem in theorems if not theorem.endswith("/no-other")}
+        theorem no_other is no row: that no row has another name is told by `any`, which a wrong rule may be of."""
+        theorems = {theorem for theorem in theorems if not theorem.endswith("/no_other")}
         in_one = {self.labels[proof]: f"{proof}/rows" for proof, table in self.paper.tables.items() if table.in_one}
         rows = {in_one.get(row[0], row) for row in refusers(verdict)}
         return rows <= theorems if verdict.endswith(PERHAPS_MORE) else rows == theorems

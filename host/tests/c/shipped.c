@@ -1,7 +1,7 @@
-/* Answers calls of the library, one after the other, so that a test on any processor can ask the archive as it is shipped, for
- * x86-64. A call on standard input is its length, a letter and what the function takes; an answer on standard output is its
- * length and what the function gives. Numbers are low byte first, and a struct is its fields, since the bytes between them are
- * anyone's. tests/random/shipped.rs is the other side. There are no headers of a C library, so what is used of it is declared. */
+/* Answers calls of the library, one after the other, so that a test can ask the archive as it is shipped, linked by the kit. A
+ * call on standard input is its length, a letter and what the function takes; an answer on standard output is its length and what
+ * the function gives. Numbers are low byte first, and a struct is its fields, since the bytes between them are anyone's.
+ * tests/random/shipped.rs is the other side. There are no headers of a C library, so what is used of it is declared. */
 #include "degvuurel.h"
 
 long read(int file, void *bytes, size_t length);

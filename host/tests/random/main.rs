@@ -1,6 +1,6 @@
 //! The proved library and the independent implementation of documents 01 and 02 side by side, over registers, damaged registers,
 //! stations, planner's texts, and texts for the passenger screens by chance. Some registers, damaged ones and planner's texts go
-//! through the archive as it is shipped too, on any processor: that needs the kit, whose `rt` is on the PATH.
+//! through the archive as it is shipped too, on x86-64: that needs the kit, whose `rt` is on the PATH.
 //!
 //! `DEGVUUREL_SEED` is the seed, and `DEGVUUREL_REGISTERS` the number of registers; without them every run is the same. A part
 //! that differs prints the shortest case found. What was seen is counted, and each answer must be seen often enough.
@@ -111,13 +111,20 @@ fn main() -> ExitCode {
         runs::run("planner's texts", seed, PLANS * others / REGISTERS, plans::try_case),
         runs::run("long planner's texts", seed, LONG_PLANS, plans::try_long),
     ];
-    shipped::link();
-    let of_shipped = [
-        runs::run("shipped registers", seed, SHIPPED, |chance, bench| registers::try_case(chance, bench.with_shipped())),
-        runs::run("shipped damaged registers", seed, SHIPPED, |chance, bench| damaged::try_case(chance, bench.with_shipped())),
-        runs::run("shipped planner's texts", seed, SHIPPED_PLANS, |chance, bench| plans::try_case(chance, bench.with_shipped())),
-        whole("shipped siting", signals::shipped_siting),
-    ];
+    let mut of_shipped = Vec::new();
+    if shipped::IS_HERE {
+        shipped::link();
+        of_shipped.extend([
+            runs::run("shipped registers", seed, SHIPPED, |chance, bench| registers::try_case(chance, bench.with_shipped())),
+            runs::run("shipped damaged registers", seed, SHIPPED, |chance, bench| damaged::try_case(chance, bench.with_shipped())),
+            runs::run("shipped planner's texts", seed, SHIPPED_PLANS, |chance, bench| {
+                plans::try_case(chance, bench.with_shipped())
+            }),
+            whole("shipped siting", signals::shipped_siting),
+        ]);
+    } else {
+        println!("the shipped code is passed over: it is for x86-64");
+    }
     let least = least_of(number);
     let registers = summed("registers and damaged ones", &of_registers);
     let mut rare = registers.rare_by_what_was_asked(OF_REGISTERS, least);
@@ -130,11 +137,13 @@ fn main() -> ExitCode {
     let plans = added(&of_plans);
     plans.print_faults("planner's texts");
     rare.extend(plans.rare_faults(least, LEAST_TOO_MANY));
-    let through = summed("through the shipped code too", &of_shipped);
-    println!("{} calls of the shipped code", through.shipped);
-    rare.extend(through.rare_by_what_was_asked(OF_REGISTERS, LEAST_SHIPPED));
-    through.print_faults("planner's texts through the shipped code too");
-    rare.extend(through.rare_faults(LEAST_SHIPPED, 0));
+    if shipped::IS_HERE {
+        let through = summed("through the shipped code too", &of_shipped);
+        println!("{} calls of the shipped code", through.shipped);
+        rare.extend(through.rare_by_what_was_asked(OF_REGISTERS, LEAST_SHIPPED));
+        through.print_faults("planner's texts through the shipped code too");
+        rare.extend(through.rare_faults(LEAST_SHIPPED, 0));
+    }
     rare.iter().for_each(|what| println!("TOO FEW: {what}"));
     let agree = of_registers.iter().chain(&of_stations).chain(&of_screens).chain(&of_plans).chain(&of_shipped).all(Option::is_some);
     let verdict = if agree { "the library and the paper agree" } else { "THE LIBRARY AND THE PAPER DIFFER" };

@@ -1,5 +1,5 @@
-//! The archive as it is shipped, for x86-64, on any processor: a program in C that answers calls of it. The program is run by the
-//! kit's loader, on another processor under the kit's emulator, and what it answers is held to the paper.
+//! The archive as it is shipped, for x86-64: a program in C, linked by the kit, that answers calls of it. What it answers is held to
+//! the paper.
 
 use crate::paper::{Reading, Report, Settings, Station};
 use crate::values::same_bytes;
@@ -7,6 +7,9 @@ use std::fmt;
 use std::io::{self, Read, Write};
 use std::path::{Path, PathBuf};
 use std::process::{Child, Command, Stdio};
+
+/// Whether it runs here.
+pub const IS_HERE: bool = cfg!(target_arch = "x86_64");
 
 /// The letters of `tests/c/shipped.c`.
 pub const START: u8 = b's';
