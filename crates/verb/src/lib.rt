@@ -1,6 +1,6 @@
-// What every verb's program does at its end: it says to the command how it went. Where its first word is
-// 3 it writes one digit to descriptor 3, which the command holds. Where nothing comes, the program was
-// stopped.
+// What a verb's program shares of the world outside: its words, what it reads and writes, and how it says
+// to the command at its end how it went. Where its first word is 3 it writes one digit to descriptor 3,
+// which the command holds. Where nothing comes, the program was stopped.
 //
 // This is the one library that touches the world outside, where no contract can say what happens.
 #![tactic(auto)]
@@ -119,6 +119,7 @@ pub fn ended(rt: &(impl Env + Eprint + Files), went: io::Result<u8>) -> ExitCode
 
 // Writes a line to standard error: what failed, and why, in the system's words.
 fn fail(rt: &impl Eprint, what: &str, error: io::Error) {
+    // Room for any of the system's errors.
     let mut shown = Cursor::new([0u8; 96]);
     let _ = write!(shown, "{error}");
     let length = shown.position() as usize;
@@ -145,7 +146,8 @@ fn say(rt: &(impl Env + Files), status: u8) {
     }
 }
 
-// At the end of what is there, so that a file keeps it.
+// Writes the digit at the end of what is there, so that a file keeps what it has. A descriptor that can
+// only be read is left alone, though by its name its file could be written.
 fn digit(rt: &impl Files, status: u8) -> io::Result<()> {
     let mode = fs::symlink_metadata(rt, STATUS)?.permissions().mode();
     if mode & WRITABLE == 0 {
