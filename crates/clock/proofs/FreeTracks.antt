@@ -46,8 +46,10 @@ module _ (t : Track) (e : some_occupied t ≡ false) where
 
   pub no_present : (c : Settings) → present c t ≡ false
   unfolding present some_occupied
-  no_present c = none (λ z i. approaching i || held c z i || is_warning z && going_away i) (λ z i n. simp (n, and-false)) zones t.islands e
+  no_present c = none (λ z i. approaching i || held c z i || is_warning z && going_away i)
+      (λ z i n. simp (n, and-false)) zones t.islands e
 
   pub no_late : (c : Settings) → late c t ≡ false
   unfolding late some_occupied
-  no_late c = none (λ z i. is_warning z && i.occupied && leb c.t5 i.age) (λ z i n. simp (n, and-false)) zones t.islands e
+  no_late c = none (λ z i. is_warning z && i.occupied && leb c.t5 i.age) (λ z i n. simp (n, and-false)) zones
+      t.islands e

@@ -104,25 +104,29 @@ module _ (n : ℕ) (t : Track) where
   pub occupied_still_in : (zone : Zone → Bool) → occupied_in zone (later_track n t) ≡ occupied_in zone t
   unfolding later_track
   occupied_still_in zone =
-      each (later n) (λ z i. zone z && i.occupied) _ (λ z i. ap (λ (j : Island). zone z && j.occupied) (later_is n i)) zones t.islands
+      each (later n) (λ z i. zone z && i.occupied) _ (λ z i. ap (λ (j : Island). zone z && j.occupied) (later_is n i))
+      zones t.islands
 
 module _ (c : Settings) (n : ℕ) (t : Track) where
   module _ (limit : (z : Zone) → timer c z ≤ 65535) (long : (z : Zone) → timer c z ≤ n) where
     pub no_fresh_then : some_fresh c (later_track n t) ≡ false
     unfolding some_fresh later_track
-    no_fresh_then = each (later n) (fresh_approaching c) _ (none_fresh c n limit long) zones t.islands ∙ nowhere zones t.islands
+    no_fresh_then = each (later n) (fresh_approaching c) _ (none_fresh c n limit long) zones t.islands
+        ∙ nowhere zones t.islands
 
     pub no_near_then : fresh_near c (later_track n t) ≡ false
     unfolding fresh_near later_track
     no_near_then =
-        each (later n) (λ z i. not (is_advance z) && fresh_approaching c z i) _ (λ z i. ap (λ (b : Bool). not (is_advance z) && b) (none_fresh c n limit long z i)
+        each (later n) (λ z i. not (is_advance z) && fresh_approaching c z i) _
+        (λ z i. ap (λ (b : Bool). not (is_advance z) && b) (none_fresh c n limit long z i)
         ∙ and-false (not (is_advance z))) zones t.islands
         ∙ nowhere zones t.islands
 
     pub no_advance_then : fresh_advance c (later_track n t) ≡ false
     unfolding fresh_advance later_track
     no_advance_then =
-        each (later n) (λ z i. is_advance z && fresh_approaching c z i) _ (λ z i. ap (λ (b : Bool). is_advance z && b) (none_fresh c n limit long z i)
+        each (later n) (λ z i. is_advance z && fresh_approaching c z i) _
+        (λ z i. ap (λ (b : Bool). is_advance z && b) (none_fresh c n limit long z i)
         ∙ and-false (is_advance z)) zones t.islands
         ∙ nowhere zones t.islands
 
@@ -132,8 +136,10 @@ module _ (c : Settings) (n : ℕ) (t : Track) where
 
   pub late_at_last : c.t5 ≤ 65535 → c.t5 ≤ n → late c (later_track n t) ≡ occupied_in is_warning t
   unfolding late later_track
-  late_at_last limit long = each (later n) (λ z i. is_warning z && i.occupied && leb c.t5 i.age) _ (late_then c n limit long) zones t.islands
+  late_at_last limit long = each (later n) (λ z i. is_warning z && i.occupied && leb c.t5 i.age) _
+      (late_then c n limit long) zones t.islands
 
   pub late_if_occupied : late c (later_track n t) || occupied_in is_warning t ≡ occupied_in is_warning t
   unfolding late later_track
-  late_if_occupied = only (later n) (λ z i. is_warning z && i.occupied && leb c.t5 i.age) _ (late_only c n) zones t.islands
+  late_if_occupied = only (later n) (λ z i. is_warning z && i.occupied && leb c.t5 i.age) _ (late_only c n) zones
+      t.islands

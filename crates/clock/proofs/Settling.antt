@@ -31,7 +31,8 @@ unfolding ticks
 ticks_add n zero s = ap (λ (k : ℕ). ticks k s) (sym (add-zero n))
 ticks_add n (suc m) s = ap tick (ticks_add n m s) ∙ ap (λ (k : ℕ). ticks k s) (sym (add-suc n m))
 
-pub ticks_conditions : (n : ℕ) (s : Station) (l : List ℕ) → ticks n (with_conditions s l) ≡ with_conditions (ticks n s) l
+pub ticks_conditions : (n : ℕ) (s : Station) (l : List ℕ) →
+    ticks n (with_conditions s l) ≡ with_conditions (ticks n s) l
 unfolding ticks tick hold_set fault_latched all_older hold_lowered greatest_risk
 ticks_conditions zero s l = refl
 ticks_conditions (suc n) s l = ap tick (ticks_conditions n s l)

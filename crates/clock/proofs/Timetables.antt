@@ -96,7 +96,8 @@ timed_skip c l j d r h o e =
     or_nothing a b z = ap (λ (x : Bool). a || x) z ∙ or-false a
 
     uncounted : (n : ℕ)
-        → count (λ x. present c (later_track n x)) (take (j + 1) l) ≡ count (λ x. present c (later_track n x)) (take j l)
+        → count (λ x. present c (later_track n x)) (take (j + 1) l) ≡ count (λ x. present c (later_track n x))
+        (take j l)
     uncounted n =
         count_more (λ x. present c (later_track n x)) l j d h
         ∙ ap (λ (b : Bool). count (λ x. present c (later_track n x)) (take j l) + cond b 1 0)

@@ -114,7 +114,8 @@ pub other_head_stays : (s : Station) (r : Report) → kind_of r.kind ≡ head_co
     → (k : ℕ) → (k ≡ r.a → ⊥) → get_or (heads_of (station_after s r)) k 0 ≡ get_or (heads_of s) k 0
 other_head_stays s r e k h =
     after_any (λ (t : Station). get_or (heads_of t) k 0 ≡ get_or (heads_of s) k 0) s r refl
-    (λ z. subst (λ (m : Kind). get_or (heads_of (acted m s r)) k 0 ≡ get_or (heads_of s) k 0) (sym e) (other_head s r k h))
+    (λ z. subst (λ (m : Kind). get_or (heads_of (acted m s r)) k 0 ≡ get_or (heads_of s) k 0) (sym e)
+    (other_head s r k h))
 
 -- ---- a station refused with 8
 

@@ -26,8 +26,10 @@ use Rattle.rules.specs.Kinds.{island_free, island_occupied, kind_of, no_kind, no
 use Rattle.rules.specs.Outputs.{outputs_of}
 use Rattle.rules.specs.Printer.{zones_of}
 use Rattle.rules.specs.Reports.{acted, all_older, detector_now, fault_latched, free_now, hold_lowered, hold_set, late}
-use Rattle.rules.specs.Reports.{named_island, named_track, occupied_now, older_track, tick, ticks, with_island, with_named}
-use Rattle.rules.specs.Station.{beyond, free_track, island_at, live, obstructed, settings_answer, some_failed, some_occupied}
+use Rattle.rules.specs.Reports.{named_island, named_track, occupied_now, older_track, tick, ticks, with_island}
+use Rattle.rules.specs.Reports.{with_named}
+use Rattle.rules.specs.Station.{beyond, free_track, island_at, live, obstructed, settings_answer, some_failed}
+use Rattle.rules.specs.Station.{some_occupied}
 use Rattle.rules.specs.Station.{track_at, with_condition, with_fault, with_hold, with_track, within_limits}
 use Rattle.rules.specs.Words.{any, count, ◌if◌then◌}
 use Rattle.rules.specs.declared.Island.{Island}

@@ -166,7 +166,8 @@ no_zero [] = true
 no_zero (r ∷ rest) = not (eqb r.number 0) && no_zero rest
 
 -- where an earlier case held, no later number is answered
-past : (answer : ℕ) (cases : Cases) (none_before : Type 0) → (none_before → ⊥) → one_of (numbers_of cases) answer ≡ false
+past : (answer : ℕ) (cases : Cases) (none_before : Type 0) → (none_before → ⊥) →
+    one_of (numbers_of cases) answer ≡ false
     → GivenAfter none_before cases answer
 past answer (n when case then rest) none_before held e =
     let h = neither _ _ e in (

@@ -16,7 +16,8 @@ use Rattle.rules.specs.Screen.{is_taken, members_of, our_number, reading_answer,
 use Rattle.rules.specs.Words.{◌if◌then◌}
 use Rattle.rules.specs.declared.Received.{Received}
 use Rattle.rules_json.specs.Reader.{blanks, bracketed_said, bracketed_size, char_size, char_units, decoded, digits}
-use Rattle.rules_json.specs.Reader.{escape_size, exp_size, frac_size, int_size, is_text, name_size, number_size, scalar_said}
+use Rattle.rules_json.specs.Reader.{escape_size, exp_size, frac_size, int_size, is_text, name_size, number_size}
+use Rattle.rules_json.specs.Reader.{scalar_said}
 use Rattle.rules_json.specs.Reader.{scalar_size, string_size, string_units, text_said, text_size, utf8_size, value_said}
 use Rattle.rules_json.specs.Reader.{value_size}
 use Rattle.rules_json.specs.Tree.{Tree}
@@ -32,7 +33,8 @@ unfolding blanks bracketed_size bracketed_said name_size value_size value_said t
 of_texts = tt
 
 of_scalars : Unit {0}
-unfolding utf16 utf8_size decoded escape_size char_size char_units string_size string_units digits int_size frac_size exp_size
+unfolding utf16 utf8_size decoded escape_size char_size char_units string_size string_units digits int_size frac_size
+    exp_size
     number_size scalar_size scalar_said
 of_scalars = tt
 

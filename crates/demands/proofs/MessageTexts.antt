@@ -123,7 +123,8 @@ pub written_length : (m : Message) → m.station ≤ 65535 → m.aspect ≤ 6553
 unfolding written
 written_length m s a few h =
     let l = fives m.tracks m.digits in
-    let short = all_map (Short 32) track_text l (all_so Five (λ five. length (track_text five) ≤ 32) l track_length h) in
+    let short = all_map (Short 32) track_text l (all_so Five (λ five. length (track_text five) ≤ 32) l track_length h)
+    in
     omega (
       arith,
       spelling_length (decimal m.station) (decimal m.aspect) (tracks_text m),

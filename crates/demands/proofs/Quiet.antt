@@ -169,7 +169,8 @@ settled_then s k (suc m) long =
         ap₂ ◌||◌ (no_risk_then s limit n reached)
         (le-ltb 0 (ticks n s).hold (omega (arith, long, hold_falls s limit (greatest c) slowest k.most n)))
 
-    none : (p : Track → Bool) → ((t : Track) → p (later_track n t) ≡ false) → any p (map (later_track n) (live s)) ≡ false
+    none : (p : Track → Bool) → ((t : Track) → p (later_track n t) ≡ false) →
+        any p (map (later_track n) (live s)) ≡ false
     none p e = any_map (later_track n) p (live s) ∙ any_none (λ t. p (later_track n t)) e (live s)
 
 -- no tick occupies or frees an island
@@ -197,7 +198,8 @@ quiet_first : (rs more : List Report) (s : Station) → Quiet s (rs ++ more) ≡
 unfolding Quiet
 quiet_first [] more s q = refl
 quiet_first (r ∷ rs) more s q =
-    let (now, later) = both (not (accepted s r) || is_clock r || is_head r) (Quiet (station_after s r) (rs ++ more)) q in
+    let (now, later) = both (not (accepted s r) || is_clock r || is_head r) (Quiet (station_after s r) (rs ++ more)) q
+    in
     ap₂ ◌&&◌ now (quiet_first rs more (station_after s r) later)
 
 module _ (s : Station) (k : Kept s) (rs : List Report) (q : Quiet s rs ≡ true)

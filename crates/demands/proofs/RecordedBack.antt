@@ -20,7 +20,8 @@ use Rattle.plan_texts.proofs.TextUnderstood.{as_many, few_reports, no_line_lem, 
 use Rattle.rules.specs.Layout.{entry_start}
 use Rattle.rules_plan.specs.Faults.{checked}
 use Rattle.rules_plan.specs.Recording.{Filling as Entered}
-use Rattle.rules_plan.specs.Recording.{lines_said, recorded_bytes, recorded_lines, recorded_of, reports_said, started_with}
+use Rattle.rules_plan.specs.Recording.{lines_said, recorded_bytes, recorded_lines, recorded_of, reports_said}
+use Rattle.rules_plan.specs.Recording.{started_with}
 
 -- ---- nothing wrong
 

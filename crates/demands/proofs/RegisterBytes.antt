@@ -11,7 +11,8 @@ use borrow.Author.Tests.{eq-eqb, le-ltb}
 use lib.Dec.{eqb, ltb}
 use lib.ListN.{length, take, drop, get_or, length-append, length-drop}
 use lib.Seq.{drop_at, drop-drop, get_or-take, length-take-le, take_at, take-take}
-use Rattle.rules.specs.Layout.{answer_in, aspect_in, entries, entry_at, entry_of, entry_start, header, report_in, settings_in}
+use Rattle.rules.specs.Layout.{answer_in, aspect_in, entries, entry_at, entry_of, entry_start, header, report_in}
+use Rattle.rules.specs.Layout.{settings_in}
 use Rattle.rules.specs.Register.{head_answer, length_answer}
 use Rattle.rules.specs.Words.{put, ◌if◌then◌}
 use Rattle.rules.specs.declared.Report.{Report}
@@ -147,5 +148,6 @@ pub first_entry : (n j : ℕ) (b : List ℕ) → entry_start (suc j) ≤ n → e
 unfolding entry_at
 first_entry n j b h = part_of_first (entry_start j) 8 n b (omega arith)
 
-pub same_entry : (n j : ℕ) (b b' : List ℕ) → take n b ≡ take n b' → entry_start (suc j) ≤ n → entry_at b j ≡ entry_at b' j
+pub same_entry : (n j : ℕ) (b b' : List ℕ) → take n b ≡ take n b' → entry_start (suc j) ≤ n →
+    entry_at b j ≡ entry_at b' j
 same_entry n j b b' e h = sym (first_entry n j b h) ∙ ap (λ (l : List ℕ). entry_at l j) e ∙ first_entry n j b' h

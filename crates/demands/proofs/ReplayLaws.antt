@@ -62,7 +62,8 @@ module _ (b : List ℕ) where
   pub step_names_one : (k : ℕ) → (step_of b k).answer ≡ 13 → (step_of b k).entry ≡ 0 → ⊥
   unfolding step_of reading_of
   step_names_one k e q =
-      wrong_named b k (in_its_case (of_stepping b k) _ 13 (stated_stepping b k) e) (sym (named k (step_answer b k) e) ∙ q)
+      wrong_named b k (in_its_case (of_stepping b k) _ 13 (stated_stepping b k) e)
+      (sym (named k (step_answer b k) e) ∙ q)
 
 -- ---- stepping to row k, from the header and the first k entries, and of the rest only its length
 
@@ -72,7 +73,8 @@ module _ (b b' : List ℕ) where
   after_apart zero e = λ i. (made (same_settings_lem b b' e i)).station
   after_apart (suc k) e =
       let before = same_first (entry_start k) (entry_start (suc k)) b b' (omega arith) e in
-      λ i. station_after (after_apart k before i) (report_in (same_entry (entry_start (suc k)) k b b' e (omega arith) i))
+      λ i. station_after (after_apart k before i) (report_in
+      (same_entry (entry_start (suc k)) k b b' e (omega arith) i))
 
   wrong_apart : (k : ℕ) → take (entry_start k) b ≡ take (entry_start k) b' → first_wrong b k ≡ first_wrong b' k
   unfolding first_wrong
@@ -86,7 +88,8 @@ module _ (b b' : List ℕ) where
 
   module _ (k : ℕ) (e : take (entry_start k) b ≡ take (entry_start k) b') where
     -- where the registers are answered alike, and both have the row or neither
-    step_from : register_answer b ≡ register_answer b' → ltb (entries b) k ≡ ltb (entries b') k → step_of b k ≡ step_of b' k
+    step_from : register_answer b ≡ register_answer b' → ltb (entries b) k ≡ ltb (entries b') k →
+        step_of b k ≡ step_of b' k
     unfolding step_of step_answer reading_of
     step_from first row =
         let answer : step_answer b k ≡ step_answer b' k =

@@ -19,8 +19,10 @@ use Rattle.demands.proofs.StationMessage.{padded_fits}
 use Rattle.demands.proofs.ValueForms.{Held, first_held, given_then, members_held, number_form, tracks_form}
 use Rattle.demands.specs.Screens.{AspectIs, Fits, Lacking, Members, MessageIs}
 use Rattle.demands.specs.Screens.{Says, StationIs, TracksAre, number_value}
-use Rattle.rules.specs.Screen.{and_then, aspect_in, aspect_name, first, is_there, members_of, message_in, number_of, or_else}
-use Rattle.rules.specs.Screen.{padded, received, station_in, station_name, tracks_in, tracks_fit, tracks_name, tracks_of}
+use Rattle.rules.specs.Screen.{and_then, aspect_in, aspect_name, first, is_there, members_of, message_in, number_of}
+use Rattle.rules.specs.Screen.{or_else}
+use Rattle.rules.specs.Screen.{padded, received, station_in, station_name, tracks_in, tracks_fit, tracks_name}
+use Rattle.rules.specs.Screen.{tracks_of}
 use Rattle.rules.specs.declared.Message.{Message}
 use Rattle.rules.specs.declared.Received.{Received}
 use Rattle.rules_json.specs.Grammar.{DeepValue, joined}
@@ -65,7 +67,8 @@ module _ (members : Members) where
   aspect_read n (few, e) = ap (λ o. and_then o (number_of 5)) e ∙ decimal_ours n (omega arith) 5 few
 
   tracks_read_lem : (l : List (List ℕ)) → TracksAre l members → tracks_in members ≡ some l
-  tracks_read_lem l (least, most, five, e) = ap (λ o. and_then o tracks_of) e ∙ tracks_back l (tracks_fit_lem l least most) five
+  tracks_read_lem l (least, most, five, e) = ap (λ o. and_then o tracks_of) e
+      ∙ tracks_back l (tracks_fit_lem l least most) five
 
   pub message_read : (m : Message) → MessageIs m members → (whole members ≡ true) × (message_in members ≡ m)
   message_read m (station, aspect, (l, tracks, count, digits)) =

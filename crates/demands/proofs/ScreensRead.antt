@@ -52,7 +52,8 @@ heard station aspect tracks =
           } no_message;
     }
 
-same_received : (x y : Members) → first station_name x ≡ first station_name y → first aspect_name x ≡ first aspect_name y
+same_received : (x y : Members) → first station_name x ≡ first station_name y →
+    first aspect_name x ≡ first aspect_name y
     → first tracks_name x ≡ first tracks_name y
     → received_from (answer_to x) x ≡ received_from (answer_to y) y
 unfolding heard
@@ -138,7 +139,8 @@ pub alike : (s t : List ℕ) (x y : Tree 8) → Says x s → Says y t
     → first aspect_name (members_of x) ≡ first aspect_name (members_of y)
     → first tracks_name (members_of x) ≡ first tracks_name (members_of y)
     → received s ≡ received t
-alike s t x y u v a b c = received_of s x u ∙ same_received (members_of x) (members_of y) a b c ∙ sym (received_of t y v)
+alike s t x y u v a b c = received_of s x u ∙ same_received (members_of x) (members_of y) a b c
+    ∙ sym (received_of t y v)
 
 pub skips : (s t : List ℕ) (x y : Tree 8) → Says x s → Says y t → only_ours (members_of x) ≡ only_ours (members_of y)
     → received s ≡ received t
@@ -159,7 +161,8 @@ refused s h = where_refused (reading_answer s) (message_in (ours s)) no_message 
 pub blanks : (s t : List ℕ) (x : Tree 8) → Says x s → Says x t → received s ≡ received t
 blanks s t x u v = received_of s x u ∙ sym (received_of t x v)
 
-pub first_of_each_lem : (s t : List ℕ) (before after : Members) (m : Member (Tree 7)) → Says (object (before ++ after)) s
+pub first_of_each_lem : (s t : List ℕ) (before after : Members) (m : Member (Tree 7)) →
+    Says (object (before ++ after)) s
     → Says (object (before ++ (m ∷ after))) t
     → named m.name before ≡ true
     → received s ≡ received t

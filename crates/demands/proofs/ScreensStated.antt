@@ -17,7 +17,8 @@ use Rattle.rules.specs.Screen.{received, writing_answer, written, written_of}
 use Rattle.rules.specs.declared.Message.{Message}
 use Rattle.rules_json.specs.Tree.{Tree}
 
-pub stated_writing : (m : Message) (b : List ℕ) → GivenExactly (of_writing m (length b)) (written_of m (length b)).answer
+pub stated_writing : (m : Message) (b : List ℕ) → GivenExactly (of_writing m (length b))
+    (written_of m (length b)).answer
 unfolding written_of writing_answer
 stated_writing m b = exactly (group (16 on isnt (message_fits m) ∷ 12 on below (length b) (length (written m)) ∷ []))
     refl
@@ -37,7 +38,8 @@ module _ (s : List ℕ) where
   tested : GivenExactly (15 when (Readable s → ⊥) then 16 when whole (ours s) ≡ false then otherwise 0)
       (received s).answer
   unfolding received reading_answer
-  tested = exactly (group (15 on in_words (isnt (is_taken s)) not_taken is_taken_lem ∷ 16 on isnt (whole (ours s)) ∷ []))
+  tested = exactly (group (15 on in_words (isnt (is_taken s)) not_taken is_taken_lem ∷ 16 on isnt (whole (ours s)) ∷
+      []))
       refl
 
   -- and in the request's words, of a text that is taken

@@ -22,8 +22,10 @@ use Rattle.rules.specs.Answers.{already, answer_of, blocked, form_answer, names_
 use Rattle.rules.specs.Answers.{place_answer, state_answer, taken, wrong_fields}
 use Rattle.rules.specs.Kinds.{kind_of}
 use Rattle.rules.specs.Layout.{entries, has_mark, settings_in, version_in}
-use Rattle.rules.specs.Register.{append_answer, appended, entry_answer, first_wrong, head_answer, length_answer, read_answer}
-use Rattle.rules.specs.Register.{read_of, reading_of, register_answer, same_settings, start_answer, step_answer, step_of}
+use Rattle.rules.specs.Register.{append_answer, appended, entry_answer, first_wrong, head_answer, length_answer}
+use Rattle.rules.specs.Register.{read_answer}
+use Rattle.rules.specs.Register.{read_of, reading_of, register_answer, same_settings, start_answer, step_answer}
+use Rattle.rules.specs.Register.{step_of}
 use Rattle.rules.specs.Reports.{named_island}
 use Rattle.rules.specs.Siting.{advance_sited, message_good, speed_good, tracks_good, warning_sited}
 use Rattle.rules.specs.Station.{made, obstructed, settings_answer, within_limits}

@@ -64,7 +64,8 @@ module _ (s : Said) (l : Line) where
   unfolding line_fault with_line
   stays name value e h = go (is_setting l) refl (passed 6 _ _ (passed 5 _ _ (both_done l.fault _ e).1).1).0
     where
-      go : (t : Bool) → is_setting l ≡ t → (t && given_already s l) ≡ false → Has (by_kind s l t (is_report l)) name value
+      go : (t : Bool) → is_setting l ≡ t → (t && given_already s l) ≡ false →
+          Has (by_kind s l t (is_report l)) name value
       go true q fresh =
           let at : ℕ → Bool = λ n. get_or s.given n false in
           let other : name ≡ l.name → ⊥ = λ q. false≢true (sym fresh ∙ ap at (sym q) ∙ h.given) in
@@ -175,4 +176,5 @@ module _ (text : List ℕ) (fine : (checked text).fault ≡ 0) where
 
   pub settings_given_lem : (name : ℕ) → name < 6 → Named (lines_of text) name
   unfolding checked nothing_said
-  settings_given_lem name h = given_from 1 nothing_said (lines_of text) name refl fine h (get_or-replicate 6 name false false h)
+  settings_given_lem name h = given_from 1 nothing_said (lines_of text) name refl fine h
+      (get_or-replicate 6 name false false h)

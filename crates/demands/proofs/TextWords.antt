@@ -92,7 +92,8 @@ abbrev tested : ℕ → Bool → Bool → ℕ
 tested wrong fewer more = 4 if eqb wrong byte then 5 if eqb wrong sixteen_bits then 2 if fewer then 3 if more then 0
 
 abbrev stated : List ℕ → List (List ℕ) → ℕ
-stated each words = tested (wrong_up_to each words) (ltb (length words) (length each)) (ltb (length each) (length words))
+stated each words = tested (wrong_up_to each words) (ltb (length words) (length each))
+    (ltb (length each) (length words))
 
 by_most : (byte_meant bits_meant : Bool) (rest later : ℕ) → not (byte_meant || bits_meant) ≡ false
     → (4 if byte_meant then 5 if bits_meant then rest) ≡ cond byte_meant 4 5 ▷ later

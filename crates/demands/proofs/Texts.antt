@@ -17,7 +17,8 @@ use Rattle.demands.specs.Texts.{FirstAtFault, FirstDecides, TextsAsStated}
 use Rattle.demands.specs.Texts.{fault_on, lines_of, of_end, of_standing, said_before, said_by}
 use Rattle.rules.specs.Station.{within_limits}
 use Rattle.rules.specs.Words.{◌if◌then◌}
-use Rattle.rules_plan.specs.Faults.{all_given, checked, checked_from, given_already, line_fault, nothing_said, with_line}
+use Rattle.rules_plan.specs.Faults.{all_given, checked, checked_from, given_already, line_fault, nothing_said}
+use Rattle.rules_plan.specs.Faults.{with_line}
 use Rattle.rules_plan.specs.Lines.{is_report, is_setting, line_of}
 use Rattle.rules_plan.specs.declared.Checked.{Checked}
 use Rattle.rules_plan.specs.declared.Line.{Line}

@@ -82,7 +82,8 @@ pub ours_up_to : (most : ℕ) (text : List ℕ) → most ≤ 65535
     (or_else 65536 (our_number 65535 text))
 unfolding our_number
 ours_up_to most text h =
-    by_tests (not (is_empty text) && not (any no_digit text)) (number_after 0 text) (leb (number_after 0 text) 65535) refl
+    by_tests (not (is_empty text) && not (any no_digit text)) (number_after 0 text) (leb (number_after 0 text) 65535)
+    refl
   where
     by_tests : (good : Bool) (n : ℕ) (t : Bool) → leb n 65535 ≡ t
         → provided (good && leb n most) n

@@ -40,7 +40,8 @@ module _ {A : Type 0} (p : A → Bool) where
   pub any_more : (l : List A) (j : ℕ) (d : A) → j < length l
       → any p (take (j + 1) l) ≡ any p (take j l) || p (get_or l j d)
   any_more l j d h = rw (add-one, take-suc l j d h)
-      (any_append (take j l) (get_or l j d ∷ []) ∙ ap (λ (b : Bool). any p (take j l) || b) (or-false (p (get_or l j d))))
+      (any_append (take j l) (get_or l j d ∷ []) ∙ ap (λ (b : Bool). any p (take j l) || b)
+      (or-false (p (get_or l j d))))
 
   pub count_more : (l : List A) (j : ℕ) (d : A) → j < length l
       → count p (take (j + 1) l) ≡ count p (take j l) + cond (p (get_or l j d)) 1 0
@@ -119,7 +120,8 @@ module _ {A : Type 0} (f : A → A) where
   pub changed_next : (j : ℕ) (l m : List A) (d x : A) → j < length l → m ≡ changed j l → x ≡ f (get_or m j d)
       → set m j x ≡ changed (j + 1) l
   changed_next j l m d x h e g =
-      ap₂ (λ (k : List A) (y : A). set k j y) e (g ∙ ap (λ (k : List A). f (get_or k j d)) e ∙ ap f (changed_at j l d h))
+      ap₂ (λ (k : List A) (y : A). set k j y) e (g ∙ ap (λ (k : List A). f (get_or k j d)) e
+      ∙ ap f (changed_at j l d h))
       ∙ changed_more j l d h
 
   -- an element that the change leaves as it is

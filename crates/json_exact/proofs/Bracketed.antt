@@ -47,9 +47,9 @@ module _ {A : Type 0} (C : A → Part) (close : ℕ) where
   abbrev pub Inner : List A → Part
   Inner xs s u = ((xs ≡ []) × (s ≡ close ∷ u)) ⊎ Items xs s u
 
-  pub record Bracketed (first-octet : ℕ) (xs : List A) (s u : List ℕ) : Type 0 where
+  pub record Bracketed (first_octet : ℕ) (xs : List A) (s u : List ℕ) : Type 0 where
     pub inside : List ℕ
-    pub opened : s ≡ first-octet ∷ inside
+    pub opened : s ≡ first_octet ∷ inside
     pub first : List ℕ
     pub blanks : Ws inside first
     pub inner : Inner xs first u

@@ -1,4 +1,5 @@
--- RFC 8259, section 6: `number_size` takes exactly the texts of the rule `number`, wherever nothing goes on behind them.
+-- RFC 8259, section 6: `number_size` takes exactly the texts of the rule `number`, wherever nothing goes on behind
+-- them.
 -- Assumes nothing.
 use Prim.Native.Nat.{ℕ, ◌+◌, ◌<◌}
 use native.Mathlib.Omega.{arith}
@@ -11,7 +12,8 @@ use lib.Dec.{eqb, leb}
 use lib.ListN.{drop, length}
 use Rattle.rules_json.specs.Abnf.{Rule, at_least_one, many, one, optional, these, ◌then◌}
 use Rattle.rules_json.specs.Grammar.{Exp, Frac, Int, Minus, Number, digit, digit1_9, e, sign}
-use Rattle.rules_json.specs.Reader.{at, digits, exp_size, frac_size, further, int_size, leading, minus_size, number_size}
+use Rattle.rules_json.specs.Reader.{at, digits, exp_size, frac_size, further, int_size, leading, minus_size}
+use Rattle.rules_json.specs.Reader.{number_size}
 use Rattle.rules_json.specs.Reader.{rest_size, sign_size, unsigned_size}
 use Rattle.json_exact.proofs.Classes.{apart, ascii_digit, ascii_digit1_9, ascii_e, implied, starts}
 use Rattle.json_exact.proofs.Leading.{all_leading, at_least_one_lem, more, run_of, run_of_some}

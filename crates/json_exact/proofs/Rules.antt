@@ -114,7 +114,7 @@ module _ {A : Type 0} {P : A → Rule} {C : A → Part} (cores : Cores P C) (clo
   -- ---- brackets
 
   abbrev pub BracketRule : ℕ → List A → Rule
-  BracketRule first-octet xs = Structural first-octet then ItemsRule P xs then Structural close
+  BracketRule first_octet xs = Structural first_octet then ItemsRule P xs then Structural close
 
   module _ (b : ℕ) where
     inner_inward : (xs : List A) {s l u : List ℕ} → Spans (ItemsRule P xs) s l → Ws l (close ∷ u)

@@ -37,7 +37,8 @@ no_units s e = rw (e, or-true (ltb (at s 0) 0x20))
 
 string_fits : (s : List ℕ) → Fits Closes Goes (char_units s) s (string_step s)
 string_fits s =
-    by_test (λ t. F (cond t (last 1) (cond (eqb (char_size s) 0) fails (goes_on (char_size s))))) (eqb (at s 0) 0x22) quote
+    by_test (λ t. F (cond t (last 1) (cond (eqb (char_size s) 0) fails (goes_on (char_size s))))) (eqb (at s 0) 0x22)
+    quote
     (λ _. by_test (λ t. F (cond t fails (goes_on (char_size s)))) (eqb (char_size s) 0) (λ _. tt)
     (λ some. char_sound s (eqb-false (char_size s) 0 some)))
   where

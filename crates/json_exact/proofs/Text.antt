@@ -68,7 +68,8 @@ text_complete deep x s m l before value after =
     let some = ap (λ (k : List ℕ). eqb (value_size deep k) 0) start.rest ∙ nonzero left less in
     (rw some all, ap (value_said deep) start.rest ∙ said, omega (arith, start.count))
 
-pub complete : (deep : ℕ) (x : Tree deep) (s : List ℕ) → Text deep x s → (is_text deep s ≡ true) × (text_said deep s ≡ x)
+pub complete : (deep : ℕ) (x : Tree deep) (s : List ℕ) → Text deep x s → (is_text deep s ≡ true)
+    × (text_said deep s ≡ x)
 unfolding is_text
 complete deep x s text =
     let w : Spans (Text deep x) s [] = record { text = s; split = sym (append-nil s); of = text } in

@@ -9,7 +9,8 @@ use lib.Dec.{eqb}
 use lib.ListN.{length}
 use Rattle.rules_json.specs.Abnf.{Rule}
 use Rattle.rules_json.specs.Grammar.{DeepValue, ScalarRule, ValueRule, blank}
-use Rattle.rules_json.specs.Reader.{at, bracketed_said, bracketed_size, member_said, member_size, scalar_said, scalar_size}
+use Rattle.rules_json.specs.Reader.{at, bracketed_said, bracketed_size, member_said, member_size, scalar_said}
+use Rattle.rules_json.specs.Reader.{scalar_size}
 use Rattle.rules_json.specs.Reader.{value_said, value_size}
 use Rattle.rules_json.specs.Tree.{Scalar, Tree, Value, array, object, scalar}
 use Rattle.json_exact.proofs.Bracketed.{Bracket, Bracketed, bracketed_complete, bracketed_shorter}

@@ -12,7 +12,8 @@ use lib.ListN.{drop}
 use Rattle.json_reader.proofs.Further.{cond_none, cond_some, further_none, further_some}
 use Rattle.json_reader.proofs.Places.{first_is, measured_behind}
 use Rattle.rules_json.specs.Grammar.{e}
-use Rattle.rules_json.specs.Reader.{at, digits, exp_size, frac_size, further, int_size, minus_size, number_size, rest_size}
+use Rattle.rules_json.specs.Reader.{at, digits, exp_size, frac_size, further, int_size, minus_size, number_size}
+use Rattle.rules_json.specs.Reader.{rest_size}
 use Rattle.rules_json.specs.Reader.{sign_size, unsigned_size}
 
 module _ (text : List ℕ) (p found : ℕ) (is : found ≡ at text p) where

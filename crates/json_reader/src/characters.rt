@@ -2,7 +2,7 @@
 // character on tells its size: 0 where there is none.
 ghost use Rattle.std.specs.Prelude.{cond, not, ◌≡◌, eqb};
 ghost use Rattle.rules_json.specs.Grammar.{escaped, hexdig};
-ghost use Rattle.rules_json.specs.Reader.{char_size, escape_size, second as mayBeSecond, tail as isTail, utf8_size};
+ghost use Rattle.rules_json.specs.Reader.{char_size, escape_size, second as may_be_second, tail as is_tail, utf8_size};
 
 use crate::octets::octet;
 
@@ -95,14 +95,14 @@ fn size_if(good: bool, size: usize) -> usize
 
 // UTF8-tail = %x80-BF
 fn tail(found: u8) -> bool
-    ensures { result ≡ isTail found }
+    ensures { result ≡ is_tail found }
 {
     (0x80 <= found) & (found <= 0xBF)
 }
 
 // The second octet of three or four: not every one is there behind E0, ED, F0 and F4.
 fn second(first: u8, found: u8) -> bool
-    ensures { result ≡ mayBeSecond first found }
+    ensures { result ≡ may_be_second first found }
 {
     match first {
         0xE0 => (0xA0 <= found) & (found <= 0xBF),

@@ -1,7 +1,7 @@
 // Octets one by one, and runs of them.
 ghost use Rattle.std.specs.Prelude.{◌≡◌, ◌+◌, drop};
 ghost use Rattle.json_reader.specs.Blanks.{PastBlanks};
-ghost use Rattle.rules_json.specs.Reader.{at, blanks as blanksAtHead, digits as digitsAtHead};
+ghost use Rattle.rules_json.specs.Reader.{at, blanks as blanks_at_head, digits as digits_at_head};
 
 // An octet and its place.
 #[derive(Clone, Copy)]
@@ -19,7 +19,7 @@ pub fn octet(text: &[u8], place: usize) -> u8
 
 // Past the blanks at a place.
 pub fn blanks(text: &[u8], place: usize) -> usize
-    ensures { result ≡ place + blanksAtHead (drop place text.now) }
+    ensures { result ≡ place + blanks_at_head (drop place text.now) }
 {
     let next = past_blanks(text, place);
     next.place
@@ -46,7 +46,7 @@ pub(crate) fn past_blanks(text: &[u8], place: usize) -> Next
 
 // Past the digits at a place.
 pub(crate) fn digits(text: &[u8], place: usize) -> usize
-    ensures { result ≡ place + digitsAtHead (drop place text.now) }
+    ensures { result ≡ place + digits_at_head (drop place text.now) }
 {
     let mut past = place;
     while past < text.len() {

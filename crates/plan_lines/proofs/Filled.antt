@@ -79,7 +79,8 @@ module _ (words : List (List ℕ)) where
   number_fifth : as_sixteen_bits (first_number fifth) ≡ number_at words 4
   number_fifth =
       first_number_lem fifth
-      ∙ ap (λ w. or_else 0 (our_number 65535 w)) (rest_at fourth 0 ∙ rest_at third 1 ∙ rest_at second 2 ∙ rest_at words 3)
+      ∙ ap (λ w. or_else 0 (our_number 65535 w)) (rest_at fourth 0 ∙ rest_at third 1 ∙ rest_at second 2
+      ∙ rest_at words 3)
 
   pub numbers_filled : (name : ℕ) → filled_by name (six_numbers words) ≡ numbers_of name words
   unfolding filled_by numbers_of

@@ -49,7 +49,8 @@ one_put count line rest rows h =
     (λ i. take-suc-set rows count line h i ++ (rest ++ (behind ∙ ap (λ (n : ℕ). drop n rows) past) i))
     ∙ append_snoc (take count rows) line _
 
-pub lines_from_lem : (line count : ℕ) (rows : List ℕ) (ls : List (List ℕ)) → count + length (lines_in line ls) ≤ length rows
+pub lines_from_lem : (line count : ℕ) (rows : List ℕ) (ls : List (List ℕ)) →
+    count + length (lines_in line ls) ≤ length rows
     → lines_from line count rows ls ≡ put count (lines_in line ls) rows
 unfolding lines_from lines_in
 lines_from_lem line count rows [] h =

@@ -23,7 +23,8 @@ module _ (s : Said) (l : Line) where
   reports_after report = cond report (suc s.reports) s.reports
 
   abbrev by_name : Bool → Bool → Said
-  by_name setting report = cond setting (with_asetting (with_setting s.settings l)) (with_reports (reports_after report))
+  by_name setting report = cond setting (with_asetting (with_setting s.settings l))
+      (with_reports (reports_after report))
 
   pub a_setting_more : (c : Settings) → l.name < 6 → c ≡ with_setting s.settings l → with_asetting c ≡ with_line s l
   unfolding with_line

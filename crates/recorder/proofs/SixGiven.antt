@@ -26,7 +26,8 @@ none_beyond l place h g = sym (get_or-eq_default l false past)
 
 -- all have been given
 pub all_six_lem : (l : List Bool) → length l ≡ 6
-    → (get_or l 0 false && get_or l 1 false && get_or l 2 false && get_or l 3 false && get_or l 4 false && get_or l 5 false)
+    → (get_or l 0 false && get_or l 1 false && get_or l 2 false && get_or l 3 false && get_or l 4 false && get_or l 5
+    false)
     ≡ not (any not l)
 all_six_lem (a ∷ b ∷ c ∷ d ∷ e ∷ f ∷ []) h = six a b c d e f
 all_six_lem [] h = let z : ⊥ = omega arith in absurd z

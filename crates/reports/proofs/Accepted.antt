@@ -9,7 +9,8 @@ use borrow.Author.Tests.{leb-false, ltb-false}
 use lib.Dec.{leb, ltb}
 use Rattle.chains.proofs.Chains.{both_done, passed}
 use Rattle.reports.proofs.Taking.{after_accepted, after_refused}
-use Rattle.rules.specs.Answers.{already, answer_of, form_answer, names_island, place_answer, state_answer, station_after}
+use Rattle.rules.specs.Answers.{already, answer_of, form_answer, names_island, place_answer, state_answer}
+use Rattle.rules.specs.Answers.{station_after}
 use Rattle.rules.specs.Kinds.{Kind, kind_of}
 use Rattle.rules.specs.Reports.{acted, named_island}
 use Rattle.rules.specs.Station.{settings_answer}

@@ -47,7 +47,8 @@ names_a_head = by_number (λ k. eqb k 6 ≡ names_head (kind_of k)) refl refl re
 pub latches_fault : (k : ℕ) → eqb k 4 ≡ latches (kind_of k)
 unfolding kind_of
 latches_fault =
-    by_number (λ k. eqb k 4 ≡ latches (kind_of k)) refl refl refl refl refl refl refl refl (λ k. other k 4 (omega arith))
+    by_number (λ k. eqb k 4 ≡ latches (kind_of k)) refl refl refl refl refl refl refl refl
+    (λ k. other k 4 (omega arith))
 
 -- A kind that is no clock, head or normalise has its value alone shown as 0, if it is a kind.
 pub value_alone : (r : Report) (k : ℕ) → (k ≡ 3 → ⊥) → (k ≡ 6 → ⊥) → (k ≡ 7 → ⊥)
@@ -103,7 +104,8 @@ not_blocked s =
     (λ k a. refl)
 
 -- A number that is no kind's.
-pub no_kind_lem : (k : ℕ) → (k ≡ 1 → ⊥) → (k ≡ 2 → ⊥) → (k ≡ 3 → ⊥) → (k ≡ 4 → ⊥) → (k ≡ 5 → ⊥) → (k ≡ 6 → ⊥) → (k ≡ 7 → ⊥)
+pub no_kind_lem : (k : ℕ) → (k ≡ 1 → ⊥) → (k ≡ 2 → ⊥) → (k ≡ 3 → ⊥) → (k ≡ 4 → ⊥) → (k ≡ 5 → ⊥) → (k ≡ 6 → ⊥) →
+    (k ≡ 7 → ⊥)
     → kind_of k ≡ no_kind
 unfolding kind_of
 no_kind_lem =

@@ -13,7 +13,8 @@ use Rattle.reports.proofs.FiveIslands.{Five, five_named, five_older}
 use Rattle.rules.specs.Answers.{station_after}
 use Rattle.rules.specs.Kinds.{Kind, clock, detector_failed, detector_restored, head_condition}
 use Rattle.rules.specs.Kinds.{island_free, island_occupied, kind_of, no_kind, normalise}
-use Rattle.rules.specs.Reports.{acted, all_older, fault_latched, hold_lowered, hold_set, older_track, tick, ticks, with_named}
+use Rattle.rules.specs.Reports.{acted, all_older, fault_latched, hold_lowered, hold_set, older_track, tick, ticks}
+use Rattle.rules.specs.Reports.{with_named}
 use Rattle.rules.specs.Station.{fresh_station, least_settings, live, made, settings_answer}
 use Rattle.rules.specs.Station.{with_condition, with_track, within_limits}
 use Rattle.rules.specs.Words.{◌if◌then◌}

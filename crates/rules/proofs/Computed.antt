@@ -42,7 +42,8 @@ unfolding detector_now free_now leaving_mark occupied_now with_island
 of_marks = tt
 
 of_tracks : Unit {0}
-unfolding late older older_track fresh_advance fresh_near present some_fresh some_held some_failed some_occupied within_limits
+unfolding late older older_track fresh_advance fresh_near present some_fresh some_held some_failed some_occupied
+    within_limits
 of_tracks = tt
 
 of_stations : Unit {0}
@@ -100,6 +101,7 @@ unfolding of_strings of_scalars of_texts of_messages of_received
 of_screens = tt
 
 unfoldable pub computed : Unit {0}
-unfolding of_words of_signals of_siting of_marks of_tracks of_stations of_the_clock of_reports of_the_layout of_registers of_readings
+unfolding of_words of_signals of_siting of_marks of_tracks of_stations of_the_clock of_reports of_the_layout
+    of_registers of_readings
     of_sheets of_screens
 computed = tt

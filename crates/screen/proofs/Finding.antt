@@ -87,7 +87,12 @@ module _ (text : List ℕ) (whole : List (Member (Tree 7))) where
   pub all_none : {ours : OurPlaces} → ours ≡ record { station = 0; aspect = 0; tracks = 0 } → AllFinding whole ours
   all_none e =
       subst (AllFinding whole) (sym e)
-      record { station = finding_none station_name; aspect = finding_none aspect_name; tracks = finding_none tracks_name }
+      record {
+        station = finding_none station_name;
+        aspect = finding_none aspect_name;
+        tracks =
+            finding_none tracks_name;
+      }
 
   pub all_done : {ours : OurPlaces} → AllFinding [] ours → Places text whole ours
   all_done d =

@@ -57,7 +57,8 @@ module _ (text : List ℕ) (start : ℕ) where
   abbrev pub four : Option (List (List ℕ))
   four = given tracks_fit 6 track_of text start
 
-  shown_by : {g : Option (List (List ℕ))} → four ≡ g → shown_of g ≡ shown_of (tracks_of (value_said 7 (drop start text)))
+  shown_by : {g : Option (List (List ℕ))} → four ≡ g →
+      shown_of g ≡ shown_of (tracks_of (value_said 7 (drop start text)))
   unfolding tracks_of
   shown_by e = ap shown_of (sym e)
 
@@ -147,7 +148,7 @@ module _ {text : List ℕ} {start place count : ℕ} {digits : List ℕ} (d : Ro
           ∙ padded_on (joined d.had) five.digits (omega (arith, d.wide, long))
           ∙ ap padded (sym (joined_on d.had five.digits))
 
-      module _ {digits-next : List ℕ} (w : digits-next ≡ put (5 * count) five.digits digits) {next octet : ℕ}
+      module _ {digits_next : List ℕ} (w : digits_next ≡ put (5 * count) five.digits digits) {next octet : ℕ}
           (q : next ≡ five.past + blanks (drop five.past text)) (o : octet ≡ at text next) where
         row_item : Item (value_size 6) text place next octet
         row_item = record {
@@ -163,7 +164,7 @@ module _ {text : List ℕ} {start place count : ℕ} {digits : List ℕ} (d : Ro
         one_more = length-append d.had (five.digits ∷ []) ∙ ap (λ n. n + 1) d.counted
 
         pub row_on : octet ≡ 0x2C → {after : ℕ} → after ≡ next + 1 + blanks (drop (next + 1) text)
-            → Rows text start after digits-next (count + 1)
+            → Rows text start after digits_next (count + 1)
         row_on c {after} r =
             record {
               had = d.had ++ five.digits ∷ [];
@@ -182,7 +183,7 @@ module _ {text : List ℕ} {start place count : ℕ} {digits : List ℕ} (d : Ro
             }
 
         module _ (c : octet ≡ 0x2C → ⊥) where
-          pub all_rows_lem : ◌≡◌ {A = Shown} record { count = count + 1; digits = digits-next }
+          pub all_rows_lem : ◌≡◌ {A = Shown} record { count = count + 1; digits = digits_next }
               (shown_of (tracks_of (value_said 7 (drop start text))))
           unfolding shown_of
           all_rows_lem =

@@ -10,7 +10,8 @@ use borrow.Author.Tests.{eq-eqb, eqb-false, eqb-true, leb-true, ne_eqb}
 use lib.Dec.{eqb, leb}
 use lib.ListN.{drop, length}
 use Rattle.json_reader.proofs.Cases.{both, within_true}
-use Rattle.rules.specs.Screen.{and_then, aspect_in, first, is_there, no_message, number_of, or_else, provided, station_in}
+use Rattle.rules.specs.Screen.{and_then, aspect_in, first, is_there, no_message, number_of, or_else, provided}
+use Rattle.rules.specs.Screen.{station_in}
 use Rattle.rules.specs.Screen.{track_of, tracks_fit, tracks_in, tracks_of}
 use Rattle.rules.specs.Words.{◌if◌then◌}
 use Rattle.rules.specs.declared.Received.{Received}

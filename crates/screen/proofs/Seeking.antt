@@ -130,7 +130,7 @@ module _ {text : List ℕ} {start place : ℕ} {ours : OurPlaces} (d : Seeking t
       valueless e = no_item d.walking (no_value_lem (value_size 7) text place value v named past p e)
 
 -- A member was read at a place, with what was found after it, and an octet behind it and its blanks.
-pub record MemberRead (text : List ℕ) (start place : ℕ) (ours next-ours : OurPlaces) (next octet : ℕ) : Type 0 where
+pub record MemberRead (text : List ℕ) (start place : ℕ) (ours next_ours : OurPlaces) (next octet : ℕ) : Type 0 where
   pub so_far : Seeking text start place ours
   pub value : ℕ
   pub name_size_lem : value ≡ place + name_size (drop place text)
@@ -138,12 +138,12 @@ pub record MemberRead (text : List ℕ) (start place : ℕ) (ours next-ours : Ou
   pub past : ℕ
   pub value_size_lem : past ≡ value + value_size 7 (drop value text)
   pub valued : past ≡ value → ⊥
-  pub found : next-ours ≡ with_member ours (string_units (take (length text - place) (drop place text))) value
+  pub found : next_ours ≡ with_member ours (string_units (take (length text - place) (drop place text))) value
   pub skips : next ≡ past + blanks (drop past text)
   pub octet_is : octet ≡ at text next
 
-module _ {text : List ℕ} {start place : ℕ} {ours next-ours : OurPlaces} {next octet : ℕ}
-    (r : MemberRead text start place ours next-ours next octet) where
+module _ {text : List ℕ} {start place : ℕ} {ours next_ours : OurPlaces} {next octet : ℕ}
+    (r : MemberRead text start place ours next_ours next octet) where
   walking : Walking 0x7D (member_size (value_size 7)) text start (whole text start) place
   walking = r.so_far.walking
 
@@ -162,7 +162,7 @@ module _ {text : List ℕ} {start place : ℕ} {ours next-ours : OurPlaces} {nex
   broken = breaks walking member_item
 
   found_on : {left : List (Member (Tree 7))} → members_from text start place ≡ member_at (drop place text) ∷ left
-      → AllFinding text (members text start) left next-ours
+      → AllFinding text (members text start) left next_ours
   found_on e =
       all_on text (members text start) (subst (λ l. AllFinding text (members text start) l ours) e r.so_far.finding)
       r.value
@@ -172,7 +172,7 @@ module _ {text : List ℕ} {start place : ℕ} {ours next-ours : OurPlaces} {nex
       (λ z. r.valued (omega (arith, r.value_size_lem)))
       (r.found ∙ ap (λ s. with_member ours (string_units s) r.value) (part_behind text place))
 
-  pub object_ends : octet ≡ 0x7D → Outermost text start (record { past = next + 1; ours = next-ours })
+  pub object_ends : octet ≡ 0x7D → Outermost text start (record { past = next + 1; ours = next_ours })
   object_ends e =
       record {
         past = closes walking member_item e;
@@ -180,7 +180,7 @@ module _ {text : List ℕ} {start place : ℕ} {ours next-ours : OurPlaces} {nex
       }
 
   pub member_on : octet ≡ 0x2C → {after : ℕ} → after ≡ next + 1 + blanks (drop (next + 1) text)
-      → Seeking text start after next-ours
+      → Seeking text start after next_ours
   member_on c {after} q =
       record {
         behind = omega (arith, r.so_far.behind, r.name_size_lem, r.value_size_lem, r.skips);

@@ -100,7 +100,8 @@ two_octets b c rest first h =
     let (second, small) = by_tests (digit b) (digit c) (any no_digit rest) (leb value 65535) value h in
     (second, omega (arith, small, grows (number_after 0 (b ∷ c ∷ [])) rest, (within_true 0x30 0x39 b first).0))
   where
-    by_tests : (d e other fits : Bool) (n : ℕ) → or_else 65536 (provided (not (not d || (not e || other)) && fits) n) ≤ 1
+    by_tests : (d e other fits : Bool) (n : ℕ) → or_else 65536 (provided (not (not d || (not e || other)) && fits) n)
+        ≤ 1
         → (e ≡ true) × (n ≤ 1)
     by_tests false e other fits n h = absurd (omega arith)
     by_tests true false other fits n h = absurd (omega arith)

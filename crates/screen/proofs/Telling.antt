@@ -12,7 +12,8 @@ module _ {A : Type 0} where
   unfoldable pub told : (List ℕ → Step) → (List ℕ → List A) → List ℕ → List A
   told step says s = collects step says (suc (length s)) s
 
-  same_after : (x : Step) → Grows x → (f g : ℕ → List A) → ((n : ℕ) → 1 ≤ n → f n ≡ g n) → said_after x f ≡ said_after x g
+  same_after : (x : Step) → Grows x → (f g : ℕ → List A) → ((n : ℕ) → 1 ≤ n → f n ≡ g n) →
+      said_after x f ≡ said_after x g
   same_after fails h f g e = refl
   same_after (last n) h f g e = refl
   same_after (goes_on n) h f g e = e n h

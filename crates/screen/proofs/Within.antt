@@ -15,7 +15,8 @@ use Rattle.json_reader.proofs.Places.{in_text, taken_in_text}
 use Rattle.rules_json.specs.Abnf.{within}
 use Rattle.rules_json.specs.Grammar.{digit, e, escaped, hexdig}
 use Rattle.rules_json.specs.Reader.{at, char_size, digits, escape_size, exp_size, frac_size, further, int_size, leading}
-use Rattle.rules_json.specs.Reader.{minus_size, number_size, rest_size, second, sign_size, tail, unsigned_size, utf8_size}
+use Rattle.rules_json.specs.Reader.{minus_size, number_size, rest_size, second, sign_size, tail, unsigned_size}
+use Rattle.rules_json.specs.Reader.{utf8_size}
 
 module _ (s : List ℕ) where
   either_within : (t : Bool) (n m : ℕ) → (t ≡ true → n ≤ length s) → (t ≡ false → m ≤ length s) → cond t n m ≤ length s

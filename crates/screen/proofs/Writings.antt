@@ -20,7 +20,11 @@ use Rattle.text.proofs.Placing.{Told, begun, fit, unfitted, written_as}
 -- what `write_text` promises
 abbrev pub TextTold : List ℕ → List ℕ → ℕ → List ℕ → Type 0
 TextTold text b r b' =
-    record { value : r ≡ length_written text b; buffer_after : b' ≡ written_at_start text b; prefix_len : IsPrefixLen r b' }
+    record {
+      value : r ≡ length_written text b;
+      buffer_after : b' ≡ written_at_start text b;
+      prefix_len : IsPrefixLen r b';
+    }
 
 -- the text in a row is the text of the message
 pub row_told : (b : List ℕ) {row line b' : List ℕ} {r : ℕ} → row ≡ line → Told row b r b' → TextTold line b r b'

@@ -1,6 +1,6 @@
 // One pass over the outermost object, which remembers where our values begin.
 ghost use Rattle.std.specs.Prelude.{◌≡◌};
-ghost use Rattle.rules_json.specs.Reader.{at as octetAt, string_size, string_units};
+ghost use Rattle.rules_json.specs.Reader.{at as octet_at, string_size, string_units};
 ghost use Rattle.screen.specs.Places.{Outermost, with_member};
 
 use crate::names::first_of;
@@ -35,7 +35,7 @@ pub(crate) fn outermost(text: &[u8], at: usize) -> Found
 
 // Of the object whose first octet is at a place.
 fn members(text: &[u8], at: usize) -> Found
-    requires { octetAt text.now at ≡ 0x7B }
+    requires { octet_at text.now at ≡ 0x7B }
     ensures { Outermost text.now at result }
 {
     let mut place = json_reader::blanks(text, at + 1);

@@ -1,7 +1,7 @@
 // The text of a message.
 ghost use Rattle.std.specs.Prelude.{not, true, ◌∷◌, ◌++◌, ◌≡◌, ◌+◌, ◌≤◌, eqb, ltb, length, take};
 ghost use Rattle.io.specs.Counts.{IsPrefixLen};
-ghost use Rattle.rules.specs.Printer.{decimal, length_written, written as writtenIn, zero_or_one};
+ghost use Rattle.rules.specs.Printer.{decimal, length_written, written as written_in, zero_or_one};
 ghost use Rattle.rules.specs.Screen.{after_writing, message_fits, written, written_of};
 ghost use Rattle.rules.specs.Words.{any};
 ghost use Rattle.rules_json.specs.Abnf.{octets};
@@ -76,7 +76,7 @@ fn some_above(most: u8, digits: &[u8]) -> bool
 fn write_text(message: Message, buffer: &mut [u8]) -> usize
     requires { message_fits message ≡ true }
     ensures value { result ≡ length_written (written message) buffer.old }
-    ensures buffer_after { buffer.new ≡ writtenIn (written message) buffer.old }
+    ensures buffer_after { buffer.new ≡ written_in (written message) buffer.old }
     ensures prefix_len { IsPrefixLen result buffer.new }
 {
     let mut number = [0u8; 20];

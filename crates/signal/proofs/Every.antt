@@ -10,7 +10,8 @@ abbrev every_list : (List Bool → Bool) → ℕ → Bool
 every_list f zero = f []
 every_list f (suc n) = every_list (λ bs. f (true ∷ bs)) n && every_list (λ bs. f (false ∷ bs)) n
 
-split : (f : List Bool → Bool) (n : ℕ) → every_list f (suc n) ≡ true → (b : Bool) → every_list (λ bs. f (b ∷ bs)) n ≡ true
+split : (f : List Bool → Bool) (n : ℕ) → every_list f (suc n) ≡ true → (b : Bool) →
+    every_list (λ bs. f (b ∷ bs)) n ≡ true
 split f n t true = ((and-eq-true_iff (every_list (λ bs. f (true ∷ bs)) n) (every_list (λ bs. f (false ∷ bs)) n)).0 t).0
 split f n t false = ((and-eq-true_iff (every_list (λ bs. f (true ∷ bs)) n) (every_list (λ bs. f (false ∷ bs)) n)).0 t).1
 

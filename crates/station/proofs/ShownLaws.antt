@@ -98,11 +98,13 @@ pub occupied_more : (l : List Track) (j : ℕ) (zones next : List Bool) → j < 
     (0 ∷ 1 ∷ 2 ∷ 3 ∷ 4 ∷ [])
     → next ≡ occupied_by (take (j + 1) l)
 occupied_more l j zones next h e en = en ∙ ap (λ (z : List Bool).
-    map (λ k. get_or z k false || (island_at (get_or l j (record { islands = [] })) k).occupied) (0 ∷ 1 ∷ 2 ∷ 3 ∷ 4 ∷ [])) e
+    map (λ k. get_or z k false || (island_at (get_or l j (record { islands = [] })) k).occupied)
+    (0 ∷ 1 ∷ 2 ∷ 3 ∷ 4 ∷ [])) e
     ∙ λ i. more 0 i ∷ more 1 i ∷ more 2 i ∷ more 3 i ∷ more 4 i ∷ []
   where
     more : (k : ℕ)
-        → any (λ t. (island_at t k).occupied) (take j l) || (island_at (get_or l j (record { islands = [] })) k).occupied
+        → any (λ t. (island_at t k).occupied) (take j l) ||
+        (island_at (get_or l j (record { islands = [] })) k).occupied
         ≡ any (λ t. (island_at t k).occupied) (take (j + 1) l)
     more k = sym (any_more (λ t. (island_at t k).occupied) l j (record { islands = [] }) h)
 

@@ -87,4 +87,5 @@ pub decimal_digit : (n : ℕ) → n < 10 → decimal n ≡ (48 + n) ∷ []
 unfolding decimal
 decimal_digit n s =
     let last : n % 10 ≡ n = omega arith in
-    ap (λ (b : Bool). final_digits (cond b 1 (places_from 19 2 n)) n) (lt-ltb n 10 s) ∙ ap (λ (d : ℕ). (48 + d) ∷ []) last
+    ap (λ (b : Bool). final_digits (cond b 1 (places_from 19 2 n)) n) (lt-ltb n 10 s)
+    ∙ ap (λ (d : ℕ). (48 + d) ∷ []) last

@@ -82,8 +82,11 @@ pub fit : (text b : List ℕ) {b' : List ℕ} {r : ℕ} → length text ≤ leng
     → (r ≡ length text) × (b' ≡ begun text b)
 unfolding written length_written
 fit text b h t =
-    let yes = le-leb (length text) (length b) h in
-    (t.value ∙ ap (λ (q : Bool). cond q (length text) 0) yes, t.out_after ∙ ap (λ (q : Bool). cond q (begun text b) b) yes)
+    let yes = le-leb (length text) (length b) h in (
+      t.value ∙ ap (λ (q : Bool). cond q (length text) 0) yes,
+      t.out_after
+          ∙ ap (λ (q : Bool). cond q (begun text b) b) yes,
+    )
 
 -- where it fills the buffer
 pub filled : (text b : List ℕ) {b' : List ℕ} {r : ℕ} → length text ≡ length b → Told text b r b' → b' ≡ text

@@ -54,8 +54,10 @@ pub overflow_add-number : goal.overflow_add-number
 overflow_add-number c = omega (arith, bounds (goal.at.overflow_add-number c).Else-not-is_digit)
 
 pub returns-then-number-ge-NONE : goal.returns-then-number-ge-NONE
-returns-then-number-ge-NONE c = sym (counted_great (lent (goal.at.returns-then-number-ge-NONE c).Else-not-is_digit) (c.loop-place.place + 1)
-    (10 * c.loop-place.number + (found (goal.at.returns-then-number-ge-NONE c).Else-not-is_digit - 48)) c.if-number-ge-NONE.true) ∙ next (goal.at.returns-then-number-ge-NONE c).Else-not-is_digit
+returns-then-number-ge-NONE c = sym (counted_great (lent (goal.at.returns-then-number-ge-NONE c).Else-not-is_digit)
+    (c.loop-place.place + 1)
+    (10 * c.loop-place.number + (found (goal.at.returns-then-number-ge-NONE c).Else-not-is_digit - 48))
+    c.if-number-ge-NONE.true) ∙ next (goal.at.returns-then-number-ge-NONE c).Else-not-is_digit
 
 pub loop-place-preserved : goal.loop-place-preserved
 loop-place-preserved c = (search rules, omega arith, next (goal.at.loop-place-preserved c).Else-not-is_digit)

@@ -18,7 +18,12 @@ pub returns : goal.returns
 returns c = let o = c.args.outputs in
     let d = c.args.condition in
     let lit : c.if-condition-eq0.lit ≡ lamps o d =
-    elim c.if-condition-eq0.branch [ then-condition-eq0 w ↦ w.lit-is ∙ sym (ap (λ (t : Bool). cond t (bit_and o 31) 0) (eq-eqb (bit_and d 15) 0 w.if-condition-eq0.true)) | else-condition-eq0 w ↦ w.lit-is ∙ sym (ap (λ (t : Bool). cond t (bit_and o 31) 0) (ne_eqb (bit_and d 15) 0 w.if-condition-eq0.false)) ] in
+    elim c.if-condition-eq0.branch [
+      | then-condition-eq0 w ↦ w.lit-is
+          ∙ sym (ap (λ (t : Bool). cond t (bit_and o 31) 0) (eq-eqb (bit_and d 15) 0 w.if-condition-eq0.true))
+      | else-condition-eq0 w ↦ w.lit-is ∙ sym (ap (λ (t : Bool). cond t (bit_and o 31) 0)
+          (ne_eqb (bit_and d 15) 0 w.if-condition-eq0.false))
+    ] in
     let s1 : c.silenced.result ≡ cond (not (eqb (bit_and d 16) 0)) 32 0 = c.silenced.ensures in
     let s2 : c.silenced-2.result ≡ cond (not (eqb (bit_and d 32) 0)) 64 0 = c.silenced-2.ensures in
     let s3 : c.silenced-3.result ≡ cond (not (eqb (bit_and d 64) 0)) 128 0 = c.silenced-3.ensures in

@@ -28,5 +28,12 @@ returns c = let given = c.args in
     told _ _
     (fitted
     (simp length-append
-    (omega (arith, c.if-after_fourth-fifth.false, c.if-after_third-fourth.false, c.if-after_second-third.false, c.if-after_first-second.false, c.if-room-first.false)))
+    (omega (
+      arith,
+      c.if-after_fourth-fifth.false,
+      c.if-after_third-fourth.false,
+      c.if-after_second-third.false,
+      c.if-after_first-second.false,
+      c.if-room-first.false,
+    )))
     (further given.fifth.now four c.put.ensures))

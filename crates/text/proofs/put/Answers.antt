@@ -6,4 +6,8 @@ use Rattle.text.proofs.put.Goals as goal
 
 pub returns : goal.returns
 returns c = let given = c.args in
-    record { value = refl; out_after = copied given.at given.text.now given.out.now _ _ (omega arith) c.copy_from_slice.ensures.after }
+    record {
+      value = refl;
+      out_after = copied given.at given.text.now given.out.now _ _ (omega arith)
+          c.copy_from_slice.ensures.after;
+    }

@@ -25,7 +25,8 @@ slice_bounds-string-count c = omega (arith, within (goal.at.slice_bounds-string-
 pub string-size-requires : goal.string-size-requires
 string-size-requires c = part_first c.args.text.now c.args.at ∙ sym c.octet.ensures ∙ c.if-octet-ne34.false
 
-past : (c : After-string-size) → c.args.at + c.string-size.result ≡ c.args.at + string_size (drop c.args.at c.args.text.now)
+past : (c : After-string-size) → c.args.at + c.string-size.result ≡ c.args.at + string_size
+    (drop c.args.at c.args.text.now)
 past c = ap (c.args.at +◌) (c.string-size.ensures.value ∙ ap string_size (part_behind c.args.text.now c.args.at))
 
 pub returns-then-size-eq0 : goal.returns-then-size-eq0

@@ -5,7 +5,8 @@ use lib.ListN.{drop}
 use Rattle.rules_json.specs.Reader.{char_size}
 use Rattle.json_reader.proofs.Behind.{part_behind}
 use Rattle.json_reader.proofs.Ending.{ending_over}
-use Rattle.json_reader.proofs.Quoted.{char_small, string_begins, string_breaks, string_closes, string_goes_on, string_runs, turning}
+use Rattle.json_reader.proofs.Quoted.{char_small, string_begins, string_breaks, string_closes, string_goes_on}
+use Rattle.json_reader.proofs.Quoted.{string_runs, turning}
 use Rattle.json_reader.proofs.strings.string.Goals as goal
 use Rattle.json_reader.proofs.strings.string.Goals.{After-character-size}
 
@@ -13,7 +14,8 @@ pub loop-place-init : goal.loop-place-init
 loop-place-init c = string_begins c.args.head.now c.requires
 
 pub loop-place-preserved-then-plain : goal.loop-place-preserved-then-plain
-loop-place-preserved-then-plain c = sym (string_runs c.args.head.now c.loop-place.place c.if-plain.true) ∙ c.loop-place.invariant
+loop-place-preserved-then-plain c = sym (string_runs c.args.head.now c.loop-place.place c.if-plain.true)
+    ∙ c.loop-place.invariant
 
 pub returns-then-found-eq34 : goal.returns-then-found-eq34
 returns-then-found-eq34 c = record {

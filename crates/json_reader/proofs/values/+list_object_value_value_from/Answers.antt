@@ -2,9 +2,11 @@
 use Rattle.std.proofs.Common.{ℕ, ◌+◌, ◌-◌, ap, arith, refl, sym, ◌∙◌}
 use Rattle.rules_json.specs.Reader.{member_size, value_size}
 use Rattle.json_reader.proofs.Bracketed.{Item, begins, breaks, closes, empty, goes_on_lem, no_item, over}
-use Rattle.json_reader.proofs.Nested.{list_value, member, no_list, no_name, no_object, no_value_lem, object_value, scalar_value}
+use Rattle.json_reader.proofs.Nested.{list_value, member, no_list, no_name, no_object, no_value_lem, object_value}
+use Rattle.json_reader.proofs.Nested.{scalar_value}
 use Rattle.json_reader.proofs.values.+list_object_value_value_from.Goals as goal
-use Rattle.json_reader.proofs.values.+list_object_value_value_from.Goals.{list-After-past_blanks-next, object-After-past_blanks-next}
+use Rattle.json_reader.proofs.values.+list_object_value_value_from.Goals.{list-After-past_blanks-next}
+use Rattle.json_reader.proofs.values.+list_object_value_value_from.Goals.{object-After-past_blanks-next}
 
 pub value-value_from-requires : goal.value-value_from-requires
 value-value_from-requires t c = (omega arith, c.octet.ensures)

@@ -14,23 +14,28 @@ module _ (c : After-sixteen_bits-number) where
 
 pub returns-in-6 : goal.returns-in-6
 unfolding filled_by
-returns-in-6 c = c.occupied.ensures ∙ (λ i. occupied (c.byte-first.ensures i) (c.byte-second.ensures i)) ∙ by_name_lem (goal.at.returns-in-6 c).After-sixteen_bits-number c.in-6.is
+returns-in-6 c = c.occupied.ensures ∙ (λ i. occupied (c.byte-first.ensures i) (c.byte-second.ensures i))
+    ∙ by_name_lem (goal.at.returns-in-6 c).After-sixteen_bits-number c.in-6.is
 
 pub returns-in-7 : goal.returns-in-7
 unfolding filled_by
-returns-in-7 c = c.freed.ensures ∙ (λ i. freed (c.byte-first.ensures i) (c.byte-second.ensures i)) ∙ by_name_lem (goal.at.returns-in-7 c).After-sixteen_bits-number c.in-7.is
+returns-in-7 c = c.freed.ensures ∙ (λ i. freed (c.byte-first.ensures i) (c.byte-second.ensures i))
+    ∙ by_name_lem (goal.at.returns-in-7 c).After-sixteen_bits-number c.in-7.is
 
 pub returns-in-8 : goal.returns-in-8
 unfolding filled_by
-returns-in-8 c = c.clock.ensures ∙ (λ i. clock (c.sixteen_bits-number.ensures i)) ∙ by_name_lem (goal.at.returns-in-8 c).After-sixteen_bits-number c.in-8.is
+returns-in-8 c = c.clock.ensures ∙ (λ i. clock (c.sixteen_bits-number.ensures i))
+    ∙ by_name_lem (goal.at.returns-in-8 c).After-sixteen_bits-number c.in-8.is
 
 pub returns-in-9 : goal.returns-in-9
 unfolding filled_by
-returns-in-9 c = c.failed.ensures ∙ (λ i. failed (c.byte-first.ensures i) (c.byte-second.ensures i)) ∙ by_name_lem (goal.at.returns-in-9 c).After-sixteen_bits-number c.in-9.is
+returns-in-9 c = c.failed.ensures ∙ (λ i. failed (c.byte-first.ensures i) (c.byte-second.ensures i))
+    ∙ by_name_lem (goal.at.returns-in-9 c).After-sixteen_bits-number c.in-9.is
 
 pub returns-in-10 : goal.returns-in-10
 unfolding filled_by
-returns-in-10 c = c.restored.ensures ∙ (λ i. restored (c.byte-first.ensures i) (c.byte-second.ensures i)) ∙ by_name_lem (goal.at.returns-in-10 c).After-sixteen_bits-number c.in-10.is
+returns-in-10 c = c.restored.ensures ∙ (λ i. restored (c.byte-first.ensures i) (c.byte-second.ensures i))
+    ∙ by_name_lem (goal.at.returns-in-10 c).After-sixteen_bits-number c.in-10.is
 
 pub returns-in-11 : goal.returns-in-11
 unfolding filled_by
@@ -59,4 +64,5 @@ beyond c =
     past c.args.name all_but_one rest.1
 
 pub returns-in_default : goal.returns-in_default
-returns-in_default c = ◌∙◌ {b = report 0 0 0 0 0} c.report.ensures (filled_other c.args.name c.args.numbers (beyond (goal.at.returns-in_default c).In_default))
+returns-in_default c = ◌∙◌ {b = report 0 0 0 0 0} c.report.ensures
+    (filled_other c.args.name c.args.numbers (beyond (goal.at.returns-in_default c).In_default))

@@ -17,14 +17,28 @@ returns-then-number-eq-ABSENT-2 c = simp (ne_eqb _ _ c.if-most-eq-NONE.false, eq
 
 pub returns-then-number-most : goal.returns-then-number-most
 unfolding number_fault_of
-returns-then-number-most c = simp (ne_eqb _ _ c.if-most-eq-NONE.false, ne_eqb _ _ c.if-number-eq-ABSENT-2.false, le-leb _ _ c.if-number-most.true)
+returns-then-number-most c = simp (
+  ne_eqb _ _ c.if-most-eq-NONE.false,
+  ne_eqb _ _ c.if-number-eq-ABSENT-2.false,
+  le-leb _ _ c.if-number-most.true,
+)
 
 pub returns-then-most-eq-BYTE : goal.returns-then-most-eq-BYTE
 unfolding number_fault_of
 returns-then-most-eq-BYTE c = let great = lt-leb _ _ c.if-number-most.false in
-    simp (ne_eqb _ _ c.if-most-eq-NONE.false, ne_eqb _ _ c.if-number-eq-ABSENT-2.false, great, eq-eqb _ _ c.if-most-eq-BYTE.true)
+    simp (
+      ne_eqb _ _ c.if-most-eq-NONE.false,
+      ne_eqb _ _ c.if-number-eq-ABSENT-2.false,
+      great,
+      eq-eqb _ _ c.if-most-eq-BYTE.true,
+    )
 
 pub returns-else-most-eq-BYTE : goal.returns-else-most-eq-BYTE
 unfolding number_fault_of
 returns-else-most-eq-BYTE c = let great = lt-leb _ _ c.if-number-most.false in
-    simp (ne_eqb _ _ c.if-most-eq-NONE.false, ne_eqb _ _ c.if-number-eq-ABSENT-2.false, great, ne_eqb _ _ c.if-most-eq-BYTE.false)
+    simp (
+      ne_eqb _ _ c.if-most-eq-NONE.false,
+      ne_eqb _ _ c.if-number-eq-ABSENT-2.false,
+      great,
+      ne_eqb _ _ c.if-most-eq-BYTE.false,
+    )

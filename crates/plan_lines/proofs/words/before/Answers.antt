@@ -9,10 +9,22 @@ pub loop-count-init : goal.loop-count-init
 loop-count-init c = (omega arith, run_begins _ _)
 
 pub returns-then-stops : goal.returns-then-stops
-returns-then-stops c = record { value = run_over _ _ _ c.loop-count.invariant.1 c.loop-count-test.true (ap not c.if-stops.true-raw); upper_bound = search rules }
+returns-then-stops c = record {
+  value = run_over _ _ _ c.loop-count.invariant.1 c.loop-count-test.true
+      (ap not c.if-stops.true-raw);
+  upper_bound = search rules;
+}
 
 pub loop-count-preserved : goal.loop-count-preserved
-loop-count-preserved c = (search rules, run_on _ _ _ c.loop-count.invariant.1 c.loop-count-test.true (ap not c.if-stops.false-raw))
+loop-count-preserved c = (
+  search rules,
+  run_on _ _ _ c.loop-count.invariant.1 c.loop-count-test.true
+      (ap not c.if-stops.false-raw),
+)
 
 pub returns : goal.returns
-returns c = record { value = run_ended _ _ _ c.loop-count.invariant.1 c.loop-count-test.false; upper_bound = search rules }
+returns c = record {
+  value = run_ended _ _ _ c.loop-count.invariant.1 c.loop-count-test.false;
+  upper_bound =
+      search rules;
+}

@@ -12,7 +12,11 @@ loop-count-init c = (omega arith, run_begins _ _)
 pub returns-then-not-agrees : goal.returns-then-not-agrees
 returns-then-not-agrees c = let wanted = c.args.wanted in
     let found = c.agrees.ensures ∙ ap (is_or_not wanted) c.is_blank.ensures in
-    record { value = run_over _ _ _ c.loop-count.invariant.1 c.loop-count-test.true (sym found ∙ c.if-not-agrees.true); upper_bound = search rules }
+    record {
+      value = run_over _ _ _ c.loop-count.invariant.1 c.loop-count-test.true
+          (sym found ∙ c.if-not-agrees.true);
+      upper_bound = search rules;
+    }
 
 pub loop-count-preserved : goal.loop-count-preserved
 loop-count-preserved c = let wanted = c.args.wanted in
@@ -22,4 +26,8 @@ loop-count-preserved c = let wanted = c.args.wanted in
     )
 
 pub returns : goal.returns
-returns c = record { value = run_ended _ _ _ c.loop-count.invariant.1 c.loop-count-test.false; upper_bound = search rules }
+returns c = record {
+  value = run_ended _ _ _ c.loop-count.invariant.1 c.loop-count-test.false;
+  upper_bound =
+      search rules;
+}

@@ -15,17 +15,23 @@ unfolding checked nothing_said unmarked
 loop-at-init c = let said = c.nothing_said-said.ensures in
     let mark = c.after_mark-at.ensures in
     let text = c.args.text.now in
-    let none = ap (λ (s : Said). s.reports) said in
-    (mark.upper_bound, omega (arith, none), omega arith, λ i. checked_from 1 (said i) (lines (drop (mark.value i) text)))
+    let none = ap (λ (s : Said). s.reports) said in (
+      mark.upper_bound,
+      omega (arith, none),
+      omega arith,
+      λ i. checked_from 1 (said i) (lines (drop (mark.value i) text)),
+    )
 
 pub returns-then-fault-ne-UNDERSTOOD : goal.returns-then-fault-ne-UNDERSTOOD
-returns-then-fault-ne-UNDERSTOOD c = stopped _ _ _ _ _ _ _ c.line_from-first.ensures.first_line c.line_fault-fault.ensures c.if-fault-ne-UNDERSTOOD.true
+returns-then-fault-ne-UNDERSTOOD c = stopped _ _ _ _ _ _ _ c.line_from-first.ensures.first_line
+    c.line_fault-fault.ensures c.if-fault-ne-UNDERSTOOD.true
     c.loop-at.invariant.3
 
 pub loop-at-preserved : goal.loop-at-preserved
 loop-at-preserved c = let more = one_report_more _ _ _ c.with_line-next.ensures in
     let on =
-    checked_on _ _ _ _ _ _ _ _ c.line_from-first.ensures.first_line c.line_fault-fault.ensures c.if-fault-ne-UNDERSTOOD.false
+    checked_on _ _ _ _ _ _ _ _ c.line_from-first.ensures.first_line c.line_fault-fault.ensures
+    c.if-fault-ne-UNDERSTOOD.false
     c.with_line-next.ensures
     c.loop-at.invariant.3 in (
       c.line_from-first.ensures.at_lt_past.1,

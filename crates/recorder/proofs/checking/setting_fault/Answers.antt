@@ -35,4 +35,5 @@ pub returns-then-outside : goal.returns-then-outside
 returns-then-outside c = judged (goal.at.returns-then-outside c).After-within_limits 9 (refuses 9 0 _ c.if-outside.true)
 
 pub returns-else-outside : goal.returns-else-outside
-returns-else-outside c = judged (goal.at.returns-else-outside c).After-within_limits 0 (passes 0 9 0 _ c.if-outside.false refl)
+returns-else-outside c = judged (goal.at.returns-else-outside c).After-within_limits 0
+    (passes 0 9 0 _ c.if-outside.false refl)

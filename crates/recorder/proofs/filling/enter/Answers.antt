@@ -10,11 +10,21 @@ pub returns-then-not-is_report : goal.returns-then-not-is_report
 returns-then-not-is_report c = let given = c.args in
     let other = sym c.is_report.ensures ∙ c.if-not-is_report.true in
     let none = none_put given.found given.rows.now given.count given.line other in
-    record { register_after = not_entered given.found _ other; rows_after = none; rows_len = λ e. absurd (false≢true (sym other ∙ e)) }
+    record {
+      register_after = not_entered given.found _ other;
+      rows_after = none;
+      rows_len =
+          λ e. absurd (false≢true (sym other ∙ e));
+    }
 
 pub returns : goal.returns
 returns c = let given = c.args in
     let so = sym c.is_report.ensures ∙ c.if-not-is_report.false in
     let down =
     put_down given.found given.rows.now given.count given.line _ so c.put_line.ensures in
-    record { register_after = entered_after given.found _ _ _ _ so (add-one _) c.append-taken.ensures.value c.append-taken.ensures.register_after; rows_after = down; rows_len = λ e. search rules }
+    record {
+      register_after = entered_after given.found _ _ _ _ so (add-one _) c.append-taken.ensures.value
+          c.append-taken.ensures.register_after;
+      rows_after = down;
+      rows_len = λ e. search rules;
+    }

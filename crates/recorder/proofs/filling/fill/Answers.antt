@@ -47,4 +47,9 @@ returns c = let loop = c.loop-at in
     filled_whole _ _ _ _ ended loop.invariant.3
     ∙ λ i. filled_from (filling 0 (c.make.ensures i).station (begun.ensures.register_after i)) (lines (first i)) in
     let count = ap (λ (f : Filling). f.count) all ∙ all_entered _ _ in
-    record { register_after = ap (λ (f : Filling). f.bytes) all; rows_after = lines_whole _ _ _ _ _ _ ended loop.invariant.4 ∙ λ i. lines_from 1 0 lent.rows.now (lines (first i)); rows_len = λ h. loop.invariant.6 (omega (arith, count)) }
+    record {
+      register_after = ap (λ (f : Filling). f.bytes) all;
+      rows_after =
+          lines_whole _ _ _ _ _ _ ended loop.invariant.4 ∙ λ i. lines_from 1 0 lent.rows.now (lines (first i));
+      rows_len = λ h. loop.invariant.6 (omega (arith, count));
+    }

@@ -12,7 +12,8 @@ invariant-loop-at l = (l.at ≤ length l.text)
     × (l.line ≤ l.at + 1)
     × (filled_from (filling l.count l.station l.register) (lines (drop l.at l.text))
     ≡ filled_from (filling l.initial.count l.initial.station l.initial.register) (lines (drop l.initial.at l.text)))
-    × (lines_from l.line l.count l.rows (lines (drop l.at l.text)) ≡ lines_from l.initial.line l.initial.count l.initial.rows (lines (drop l.initial.at l.text)))
+    × (lines_from l.line l.count l.rows (lines (drop l.at l.text)) ≡ lines_from l.initial.line l.initial.count
+    l.initial.rows (lines (drop l.initial.at l.text)))
     × (length l.rows ≡ length l.initial.rows)
     × (0 < l.count → length l.initial.rows ≡ 8190)
 

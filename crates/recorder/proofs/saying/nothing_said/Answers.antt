@@ -1,4 +1,4 @@
--- `nothing_said_lem`: none given, and all numbers 0.
+-- `nothing_said`: none given, and all numbers 0.
 use Rattle.rules_plan.specs.Faults.{nothing_said}
 use mathlib.Core.Path.{refl}
 use Rattle.recorder.proofs.saying.nothing_said.Goals as goal

@@ -28,8 +28,10 @@ module _ (c : After-wrong_fields) where
 
 pub returns-then-wrong : goal.returns-then-wrong
 unfolding form_answer
-returns-then-wrong c = passes _ _ _ _ (is_known (goal.at.returns-then-wrong c).After-wrong_fields) (refuses _ _ _ (fields (goal.at.returns-then-wrong c).After-wrong_fields ∙ c.if-wrong.true))
+returns-then-wrong c = passes _ _ _ _ (is_known (goal.at.returns-then-wrong c).After-wrong_fields)
+    (refuses _ _ _ (fields (goal.at.returns-then-wrong c).After-wrong_fields ∙ c.if-wrong.true))
 
 pub returns-else-wrong : goal.returns-else-wrong
 unfolding form_answer
-returns-else-wrong c = passes _ _ _ _ (is_known (goal.at.returns-else-wrong c).After-wrong_fields) (passes _ _ _ _ (fields (goal.at.returns-else-wrong c).After-wrong_fields ∙ c.if-wrong.false) refl)
+returns-else-wrong c = passes _ _ _ _ (is_known (goal.at.returns-else-wrong c).After-wrong_fields)
+    (passes _ _ _ _ (fields (goal.at.returns-else-wrong c).After-wrong_fields ∙ c.if-wrong.false) refl)

@@ -31,21 +31,26 @@ module _ (c : After-names_island-island) where
 
 pub returns-then-no_track : goal.returns-then-no_track
 unfolding place_answer
-returns-then-no_track c = refuses _ _ _ (no_track (goal.at.returns-then-no_track c).After-names_island-island ∙ c.if-no_track.true)
+returns-then-no_track c = refuses _ _ _ (no_track (goal.at.returns-then-no_track c).After-names_island-island
+    ∙ c.if-no_track.true)
 
 pub returns-then-no_head : goal.returns-then-no_head
 unfolding place_answer
-returns-then-no_head c = passes _ _ _ _ (no_track (goal.at.returns-then-no_head c).After-names_island-island ∙ c.if-no_track.false)
+returns-then-no_head c = passes _ _ _ _ (no_track (goal.at.returns-then-no_head c).After-names_island-island
+    ∙ c.if-no_track.false)
     (refuses _ _ _ (no_head (goal.at.returns-then-no_head c).After-names_island-island ∙ c.if-no_head.true))
 
 pub returns-then-no_island : goal.returns-then-no_island
 unfolding place_answer
-returns-then-no_island c = passes _ _ _ _ (no_track (goal.at.returns-then-no_island c).After-names_island-island ∙ c.if-no_track.false)
+returns-then-no_island c = passes _ _ _ _ (no_track (goal.at.returns-then-no_island c).After-names_island-island
+    ∙ c.if-no_track.false)
     (passes _ _ _ _ (no_head (goal.at.returns-then-no_island c).After-names_island-island ∙ c.if-no_head.false)
     (refuses _ _ _ (no_island (goal.at.returns-then-no_island c).After-names_island-island ∙ c.if-no_island.true)))
 
 pub returns-else-no_island : goal.returns-else-no_island
 unfolding place_answer
-returns-else-no_island c = passes _ _ _ _ (no_track (goal.at.returns-else-no_island c).After-names_island-island ∙ c.if-no_track.false)
+returns-else-no_island c = passes _ _ _ _ (no_track (goal.at.returns-else-no_island c).After-names_island-island
+    ∙ c.if-no_track.false)
     (passes _ _ _ _ (no_head (goal.at.returns-else-no_island c).After-names_island-island ∙ c.if-no_head.false)
-    (passes _ _ _ _ (no_island (goal.at.returns-else-no_island c).After-names_island-island ∙ c.if-no_island.false) refl))
+    (passes _ _ _ _ (no_island (goal.at.returns-else-no_island c).After-names_island-island ∙ c.if-no_island.false)
+    refl))

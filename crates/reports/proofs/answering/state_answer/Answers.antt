@@ -46,11 +46,13 @@ module _ (c : After-already-again) where
 
 pub returns-then-busy : goal.returns-then-busy
 unfolding state_answer kind_of
-returns-then-busy c = passes _ _ _ _ (quiet (goal.at.returns-then-busy c).After-is_obstructed-busy) (refuses _ _ _ (busy (goal.at.returns-then-busy c).After-is_obstructed-busy ∙ c.if-busy.true))
+returns-then-busy c = passes _ _ _ _ (quiet (goal.at.returns-then-busy c).After-is_obstructed-busy)
+    (refuses _ _ _ (busy (goal.at.returns-then-busy c).After-is_obstructed-busy ∙ c.if-busy.true))
 
 pub returns-else-busy : goal.returns-else-busy
 unfolding state_answer kind_of
-returns-else-busy c = passes _ _ _ _ (quiet (goal.at.returns-else-busy c).After-is_obstructed-busy) (passes _ _ _ _ (busy (goal.at.returns-else-busy c).After-is_obstructed-busy ∙ c.if-busy.false) refl)
+returns-else-busy c = passes _ _ _ _ (quiet (goal.at.returns-else-busy c).After-is_obstructed-busy)
+    (passes _ _ _ _ (busy (goal.at.returns-else-busy c).After-is_obstructed-busy ∙ c.if-busy.false) refl)
 
 pub returns-then-again : goal.returns-then-again
 unfolding state_answer
@@ -59,4 +61,5 @@ returns-then-again c = refuses _ _ _ (again (goal.at.returns-then-again c).After
 pub returns-else-again : goal.returns-else-again
 unfolding state_answer
 returns-else-again c = passes _ _ _ _ (again (goal.at.returns-else-again c).After-already-again ∙ c.if-again.false)
-    (passes _ _ _ _ (not_blocked (held (goal.at.returns-else-again c).After-already-again) (told (goal.at.returns-else-again c).After-already-again).kind c.if-kind-eq-NORMALISE.false) refl)
+    (passes _ _ _ _ (not_blocked (held (goal.at.returns-else-again c).After-already-again)
+    (told (goal.at.returns-else-again c).After-already-again).kind c.if-kind-eq-NORMALISE.false) refl)

@@ -28,4 +28,5 @@ returns-in-7 c = by_number c.args.report c.in-7.is
 pub returns-in_default : goal.returns-in_default
 returns-in_default c = let r = c.args.report in
     ap (λ (b : Bool). b && not (eqb r.value 0)) c.names_island.ensures
-    ∙ value_alone r r.kind c.in_default.in_default-own.rest.0.0.1 c.in_default.in_default-own.rest.0.1 c.in_default.in_default-own.rest.1
+    ∙ value_alone r r.kind c.in_default.in_default-own.rest.0.0.1 c.in_default.in_default-own.rest.0.1
+    c.in_default.in_default-own.rest.1

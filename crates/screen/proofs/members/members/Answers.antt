@@ -2,7 +2,8 @@
 use native.Mathlib.Omega.{arith}
 use Rattle.json_reader.proofs.Bracketed.{inside}
 use Rattle.json_reader.proofs.Places.{in_text}
-use Rattle.screen.proofs.Seeking.{MemberRead, broken, member_item, member_on, members_over, nameless, no_outermost, object_begins, object_empty, object_ends, string_there, valueless}
+use Rattle.screen.proofs.Seeking.{MemberRead, broken, member_item, member_on, members_over, nameless, no_outermost}
+use Rattle.screen.proofs.Seeking.{object_begins, object_empty, object_ends, string_there, valueless}
 use Rattle.screen.proofs.members.members.Goals as goal
 use Rattle.screen.proofs.members.members.Goals.{After-octet-found}
 
@@ -48,14 +49,16 @@ module _ (c : After-octet-found) where
       }
 
 pub returns-then-found-eq125 : goal.returns-then-found-eq125
-returns-then-found-eq125 c = object_ends (read (goal.at.returns-then-found-eq125 c).After-octet-found) c.if-found-eq125.true
+returns-then-found-eq125 c = object_ends (read (goal.at.returns-then-found-eq125 c).After-octet-found)
+    c.if-found-eq125.true
 
 pub returns-then-found-ne44 : goal.returns-then-found-ne44
 returns-then-found-ne44 c = no_outermost c.args.text.now c.args.at c.without_members-then-found-ne44.ensures
     (broken (read (goal.at.returns-then-found-ne44 c).After-octet-found) c.if-found-eq125.false c.if-found-ne44.true)
 
 pub loop-place-preserved : goal.loop-place-preserved
-loop-place-preserved c = member_on (read (goal.at.loop-place-preserved c).After-octet-found) c.if-found-ne44.false c.blanks-place-in-loop-place.ensures
+loop-place-preserved c = member_on (read (goal.at.loop-place-preserved c).After-octet-found) c.if-found-ne44.false
+    c.blanks-place-in-loop-place.ensures
 
 pub returns : goal.returns
 returns c = let given = c.args in

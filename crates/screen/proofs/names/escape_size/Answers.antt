@@ -5,13 +5,16 @@ use Rattle.screen.proofs.Letters.{long_escape, other_escape}
 use Rattle.screen.proofs.names.escape_size.Goals as goal
 
 pub returns-then-octet-ne117 : goal.returns-then-octet-ne117
-returns-then-octet-ne117 c = other_escape _ c.requires.letter_value _ c.requires.head_value (λ u d. c.if-octet-ne117.true (c.octet.ensures ∙ u))
+returns-then-octet-ne117 c = other_escape _ c.requires.letter_value _ c.requires.head_value
+    (λ u d. c.if-octet-ne117.true (c.octet.ensures ∙ u))
 
 pub returns-then-octet-ne48 : goal.returns-then-octet-ne48
-returns-then-octet-ne48 c = other_escape _ c.requires.letter_value _ c.requires.head_value (λ u d. c.if-octet-ne48.true (c.octet-2.ensures ∙ d.first))
+returns-then-octet-ne48 c = other_escape _ c.requires.letter_value _ c.requires.head_value
+    (λ u d. c.if-octet-ne48.true (c.octet-2.ensures ∙ d.first))
 
 pub returns-then-octet-ne48-2 : goal.returns-then-octet-ne48-2
-returns-then-octet-ne48-2 c = other_escape _ c.requires.letter_value _ c.requires.head_value (λ u d. c.if-octet-ne48-2.true (c.octet-3.ensures ∙ d.second))
+returns-then-octet-ne48-2 c = other_escape _ c.requires.letter_value _ c.requires.head_value
+    (λ u d. c.if-octet-ne48-2.true (c.octet-3.ensures ∙ d.second))
 
 pub returns-then-not-stands_for : goal.returns-then-not-stands_for
 returns-then-not-stands_for c = other_escape _ c.requires.letter_value _ c.requires.head_value

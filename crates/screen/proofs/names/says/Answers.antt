@@ -11,10 +11,15 @@ returns-then-size-eq0 c = says_other c.loop-letter.invariant c.loop-letter-test.
     c.requires.word_value c.if-size-eq0.true
 
 pub loop-letter-preserved : goal.loop-letter-preserved
-loop-letter-preserved c = says_on c.loop-letter.invariant c.loop-letter-test.true c.letter_size-size.ensures c.if-size-eq0.false
+loop-letter-preserved c = says_on c.loop-letter.invariant c.loop-letter-test.true c.letter_size-size.ensures
+    c.if-size-eq0.false
 
 pub overflow_add-place : goal.overflow_add-place
-overflow_add-place c = omega (arith, (says_on c.loop-letter.invariant c.loop-letter-test.true c.letter_size-size.ensures c.if-size-eq0.false).within_head)
+overflow_add-place c = omega (
+  arith,
+  (says_on c.loop-letter.invariant c.loop-letter-test.true
+      c.letter_size-size.ensures c.if-size-eq0.false).within_head,
+)
 
 pub returns : goal.returns
 returns c = says_over c.loop-letter.invariant (omega arith) _ c.octet.ensures

@@ -31,12 +31,15 @@ pub returns-then-not-goes_on_with : goal.returns-then-not-goes_on_with
 returns-then-not-goes_on_with c = let ends = ap goes_on_with (sym c.octet.ensures) ∙ sym c.goes_on_with.ensures
     ∙ c.if-not-goes_on_with.true in
     ap (λ b. b - 48) c.octet-first.ensures
-    ∙ sym (number_at c.args.text.now c.args.place (begins (goal.at.returns-then-not-goes_on_with c).Else-not-is_digit) (alone_at c.args.text.now c.args.place (begins (goal.at.returns-then-not-goes_on_with c).Else-not-is_digit) ends))
+    ∙ sym (number_at c.args.text.now c.args.place (begins (goal.at.returns-then-not-goes_on_with c).Else-not-is_digit)
+    (alone_at c.args.text.now c.args.place (begins (goal.at.returns-then-not-goes_on_with c).Else-not-is_digit)
+    ends))
 
 module _ (c : After-value-past) where
   ends : (c.args.place ≤ c.value-past.result) × (c.value-past.result ≤ length c.args.text.now)
   ends =
-      number_ends c.args.text.now c.args.place (ap digit (sym c.octet-first.ensures) ∙ sym c.is_digit.ensures ∙ c.if-not-is_digit.false)
+      number_ends c.args.text.now c.args.place (ap digit (sym c.octet-first.ensures) ∙ sym c.is_digit.ensures
+      ∙ c.if-not-is_digit.false)
       c.value-past.result c.value-past.ensures
 
 pub slice_bounds-number_in-end : goal.slice_bounds-number_in-end

@@ -3,7 +3,8 @@ use mathlib.Core.Path.{◌≡◌, sym, ◌∙◌}
 use native.Mathlib.Omega.{arith}
 use Rattle.json_reader.proofs.Places.{in_text}
 use Rattle.rules_json.specs.Reader.{at}
-use Rattle.screen.proofs.FourTracks.{all_rows_lem, first_row, no_row, none_shown, other_form, other_row, row_on, row_there, too_many_rows}
+use Rattle.screen.proofs.FourTracks.{all_rows_lem, first_row, no_row, none_shown, other_form, other_row, row_on}
+use Rattle.screen.proofs.FourTracks.{row_there, too_many_rows}
 use Rattle.screen.proofs.tracks.tracks.Goals as goal
 use Rattle.screen.proofs.tracks.tracks.Goals.{After-octet-2}
 
@@ -19,12 +20,14 @@ returns-then-octet-ne91 c = let given = c.args in
 pub returns-then-octet-eq93 : goal.returns-then-octet-eq93
 returns-then-octet-eq93 c = let given = c.args in
     none_shown given.text.now given.at
-    (no_row given.text.now given.at (is_list (goal.at.returns-then-octet-eq93 c).After-octet-2) _ _ c.blanks-place.ensures
+    (no_row given.text.now given.at (is_list (goal.at.returns-then-octet-eq93 c).After-octet-2) _ _
+    c.blanks-place.ensures
     c.octet-2.ensures c.if-octet-eq93.true)
     c.no_tracks-then-octet-eq93.ensures
 
 pub loop-count-init : goal.loop-count-init
-loop-count-init c = first_row c.args.text.now c.args.at (is_list (goal.at.loop-count-init c).After-octet-2) _ _ c.blanks-place.ensures
+loop-count-init c = first_row c.args.text.now c.args.at (is_list (goal.at.loop-count-init c).After-octet-2) _ _
+    c.blanks-place.ensures
     c.octet-2.ensures c.if-octet-eq93.false c.requires
 
 pub track-five-requires : goal.track-five-requires
@@ -36,7 +39,8 @@ returns-then-past-eq0 c = let given = c.args in
     (other_row c.loop-count.invariant _ c.track-five.ensures c.if-past-eq0.true) c.no_tracks-then-past-eq0.ensures
 
 pub returns-then-octet-ne44 : goal.returns-then-octet-ne44
-returns-then-octet-ne44 c = all_rows_lem c.loop-count.invariant _ c.track-five.ensures c.if-past-eq0.false c.loop-count-test.true
+returns-then-octet-ne44 c = all_rows_lem c.loop-count.invariant _ c.track-five.ensures c.if-past-eq0.false
+    c.loop-count-test.true
     c.with_track-next.ensures c.blanks-behind.ensures c.octet-in-loop-count.ensures c.if-octet-ne44.true
 
 pub loop-count-preserved : goal.loop-count-preserved

@@ -18,9 +18,11 @@ at_most_four : (c : Else-not-ranges) → c.args.message.tracks ≤ 4
 at_most_four c = few c.args.message c.if-not-ranges.false
 
 pub returns-then-not-ranges : goal.returns-then-not-ranges
-returns-then-not-ranges c = out_of_range c.args.message (station (goal.at.returns-then-not-ranges c).Start) c.if-not-ranges.true
+returns-then-not-ranges c = out_of_range c.args.message (station (goal.at.returns-then-not-ranges c).Start)
+    c.if-not-ranges.true
 
 pub returns : goal.returns
-returns c = digits_tested c.args.message (station (goal.at.returns c).Start) c.if-not-ranges.false (twenty (goal.at.returns c).Start)
+returns c = digits_tested c.args.message (station (goal.at.returns c).Start) c.if-not-ranges.false
+    (twenty (goal.at.returns c).Start)
     c.some_above-wrong.ensures
     c.some_above-beyond.ensures

@@ -11,10 +11,18 @@ twenty : (c : Start) → length c.args.digits ≡ 20
 twenty c = search rules
 
 pub slice_bounds-track_text-end : goal.slice_bounds-track_text-end
-slice_bounds-track_text-end c = omega (arith, length-take 5 c.args.digits, twenty (goal.at.slice_bounds-track_text-end c).Start)
+slice_bounds-track_text-end c = omega (
+  arith,
+  length-take 5 c.args.digits,
+  twenty (goal.at.slice_bounds-track_text-end c).Start,
+)
 
 pub track_text-first-requires : goal.track_text-first-requires
-track_text-first-requires c = omega (arith, length-take 5 c.args.digits, twenty (goal.at.track_text-first-requires c).Start)
+track_text-first-requires c = omega (
+  arith,
+  length-take 5 c.args.digits,
+  twenty (goal.at.track_text-first-requires c).Start,
+)
 
 pub returns : goal.returns
 returns c = four_filled c.args.digits (twenty (goal.at.returns c).Start)

@@ -17,7 +17,9 @@ pub write_text-length-requires : goal.write_text-length-requires
 write_text-length-requires c = messages_fit (goal.at.write_text-length-requires c).Else-not-fits
 
 pub returns-then-length-eq0 : goal.returns-then-length-eq0
-returns-then-length-eq0 c = no_room_lem _ _ (messages_fit (goal.at.returns-then-length-eq0 c).Else-not-fits) _ _ c.write_text-length.ensures c.if-length-eq0.true
+returns-then-length-eq0 c = no_room_lem _ _ (messages_fit (goal.at.returns-then-length-eq0 c).Else-not-fits) _ _
+    c.write_text-length.ensures c.if-length-eq0.true
 
 pub returns : goal.returns
-returns c = done _ _ (messages_fit (goal.at.returns c).Else-not-fits) _ _ c.write_text-length.ensures c.if-length-eq0.false
+returns c = done _ _ (messages_fit (goal.at.returns c).Else-not-fits) _ _ c.write_text-length.ensures
+    c.if-length-eq0.false

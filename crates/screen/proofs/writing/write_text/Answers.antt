@@ -19,7 +19,8 @@ aspect_text-aspect-requires c = (fits_so _ c.requires).aspect
 
 pub slice_bounds-list-end : goal.slice_bounds-list-end
 slice_bounds-list-end c = let message = c.args.message in
-    let whole = ap length c.track_texts-list.ensures ∙ four_texts message.digits (twenty (goal.at.slice_bounds-list-end c).Start) in
+    let whole = ap length c.track_texts-list.ensures ∙ four_texts message.digits
+    (twenty (goal.at.slice_bounds-list-end c).Start) in
     omega (arith, whole, (fits_so message c.requires).most)
 
 pub slice_bounds-in_a_row-end-4 : goal.slice_bounds-in_a_row-end-4

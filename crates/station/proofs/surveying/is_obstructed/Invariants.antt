@@ -6,7 +6,8 @@ use lib.ListN.{take}
 use Rattle.station.proofs.surveying.is_obstructed.Given as goal
 
 abbrev pub invariant-loop-j : goal.invariant-loop-j
-invariant-loop-j l = (l.j ≤ l.live) × ((l.occupied ≡ any some_occupied (take l.j l.tracks)) × (l.failed ≡ any some_failed (take l.j l.tracks)))
+invariant-loop-j l = (l.j ≤ l.live) × ((l.occupied ≡ any some_occupied (take l.j l.tracks))
+    × (l.failed ≡ any some_failed (take l.j l.tracks)))
 
 abbrev pub decreases-loop-j : goal.decreases-loop-j
 decreases-loop-j l = l.live - l.j
