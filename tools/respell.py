@@ -3,7 +3,7 @@
 python3 tools/respell.py, at the top. Words are in snake case: heldIn becomes held_in, and held-first held_first. Types, modules, the
 names of functions of src/, of the library, and those that Rattle makes stay. Where two names would fall together and one is a
 definition, the other, a lemma, takes _lem, as CONTRACT_STYLE has it. The crate json becomes json_reader: the kit has a json.
-It also turns must-fail edits whose text is in the new spelling already; it prints each name that it turned with --list."""
+It turns no must-fail edit and no page. With --list it prints each name that it turned."""
 import collections
 import os
 import re
