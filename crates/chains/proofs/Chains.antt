@@ -7,7 +7,17 @@ use mathlib.Core.Path.{◌≡◌, refl, sym, ap, ◌∙◌}
 use mathlib.Core.Bool.{Bool, true, false, false≢true, true≢false, cond, ◌&&◌, ◌||◌}
 use borrow.Author.Tests.{eq-eqb, eqb-false, eqb-true, ne_eqb}
 use lib.Dec.{eqb}
+use Rattle.std.proofs.lemmas.Bool.Decides.{nat_tests}
+use Rattle.rules.specs.Answered.{refusal_number}
 use Rattle.rules.specs.Words.{◌if◌then◌, ◌▷◌}
+use Rattle.rules.specs.declared.Refusal.{Refusal}
+
+-- the tests in their order as nested choices, for `grind`
+pub then_is : (n : ℕ) (t : Bool) (m : ℕ) → (n if t then m) ≡ cond t n m
+unfolding ◌if◌then◌
+then_is n t m = refl
+
+pub ruleset in_order = (then_is, nat_tests)
 
 pub refuses : (n m : ℕ) (t : Bool) → t ≡ true → n ≡ (n if t then m)
 unfolding ◌if◌then◌
@@ -16,6 +26,36 @@ refuses n m t e = sym (ap (λ (b : Bool). cond b n m) e)
 pub passes : (x n m : ℕ) (t : Bool) → t ≡ false → x ≡ m → x ≡ (n if t then m)
 unfolding ◌if◌then◌
 passes x n m t e h = h ∙ sym (ap (λ (b : Bool). cond b n m) e)
+
+-- no refusal has the number 0
+refused : (e : Refusal) → eqb (refusal_number e) 0 ≡ false
+refused Refusal.NoSuchKind = refl
+refused Refusal.BadField = refl
+refused Refusal.NoSuchTrack = refl
+refused Refusal.NoSuchIsland = refl
+refused Refusal.NoSuchHead = refl
+refused Refusal.AlreadySo = refl
+refused Refusal.NotClear = refl
+refused Refusal.OutsideLimits = refl
+refused Refusal.NotARegister = refl
+refused Refusal.OtherVersion = refl
+refused Refusal.CutEntry = refl
+refused Refusal.NoRoom = refl
+refused Refusal.NoSuchRow = refl
+refused Refusal.NotJson = refl
+refused Refusal.BadMember = refl
+
+-- groups of tests: the first one's refusal is handed on, and where it refuses nothing, the second decides
+module _ (x y : ℕ) where
+  pub handed_on : (e : Refusal) → x ≡ refusal_number e → x ▷ y ≡ refusal_number e
+  unfolding ◌▷◌
+  handed_on e h = ap (λ (n : ℕ). cond (eqb n 0) y n) h ∙ ap (λ (b : Bool). cond b y (refusal_number e)) (refused e)
+
+  pub goes_on : x ≡ 0 → x ▷ y ≡ y
+  unfolding ◌▷◌
+  goes_on h = ap (λ (b : Bool). cond b y x) (eq-eqb x 0 h)
+
+pub ruleset groups = (handed_on, goes_on)
 
 -- the same of groups of tests, where v is what was worked out of the first group
 pub group_refuses : (v x y : ℕ) → v ≡ x → (v ≡ 0 → ⊥) → v ≡ (x ▷ y)

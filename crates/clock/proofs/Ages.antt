@@ -1,6 +1,6 @@
 -- Ages n ticks later, and tracks n ticks later.
 -- Assumes nothing.
-use Prim.Native.Nat.{ℕ, zero, suc, ◌+◌, ◌≤◌, min}
+use Prim.Native.Nat.{ℕ, zero, suc, ◌+◌, ◌≤◌, ◌<◌, min}
 use native.Mathlib.Decide.{dec_le}
 use native.Mathlib.Nat.{add-zero, lt_of_not-le}
 use native.Mathlib.Omega.{arith}
@@ -9,6 +9,8 @@ use mathlib.Core.Bool.{Bool, true, false, cond}
 use mathlib.Core.List.{List, [], ◌∷◌, map}
 use borrow.Author.Tests.{le-leb, lt-leb}
 use lib.Dec.{leb}
+use lib.ListN.{length, get_or, set}
+use Rattle.islands.proofs.Below.{changed, changed_next}
 use Rattle.clock.specs.Ages.{later, later_track}
 use Rattle.rules.specs.Reports.{older, older_track}
 use Rattle.rules.specs.declared.Island.{Island}
@@ -62,15 +64,29 @@ aged_is zero a h = omega arith
 aged_is (suc n) a h = aged_some n a
 
 -- in one step, as the code takes it
-pub later_occupied : (n : ℕ) (i : Island) (a : ℕ) → i.occupied ≡ true → i.age ≤ 65535 → a ≡ min 65535 (i.age + n)
+pub later_occupied : (n : ℕ) (i : Island) (a : ℕ) → i.occupied ≡ true → i.age ≤ 65535 → a ≡ min (i.age + n) 65535
     → of_age i a ≡ later n i
-later_occupied n i a o h e = ap (of_age i) (e ∙ sym (aged_is n i.age h) ∙ picked) ∙ sym (later_is n i)
+later_occupied n i a o h e = ap (of_age i) (e ∙ turned ∙ sym (aged_is n i.age h) ∙ picked) ∙ sym (later_is n i)
   where
+    turned : min (i.age + n) 65535 ≡ min 65535 (i.age + n)
+    turned = omega arith
+
     picked : aged n i.age ≡ cond i.occupied (aged n i.age) i.age
     picked = ap (λ (b : Bool). cond b (aged n i.age) i.age) (sym o)
 
 pub later_free : (n : ℕ) (i : Island) → i.occupied ≡ false → i ≡ later n i
 later_free n i o = ap (λ (b : Bool). of_age i (cond b (aged n i.age) i.age)) (sym o) ∙ sym (later_is n i)
+
+-- one island more in a list whose first are n ticks later
+module _ (n k : ℕ) (l m : List Island) (d : Island) (h : k < length l) (h' : k < length m)
+    (e : m ≡ changed (later n) k l) where
+  pub occupied_next : (a : ℕ) → (get_or m k d).occupied ≡ true → (get_or m k d).age ≤ 65535
+      → a ≡ min ((get_or m k d).age + n) 65535 → set m k (of_age (get_or m k d) a) ≡ changed (later n) (k + 1) l
+  occupied_next a o b g =
+      changed_next (later n) k l m d (of_age (get_or m k d) a) h h' e (later_occupied n (get_or m k d) a o b g)
+
+  pub free_next : (get_or m k d).occupied ≡ false → set m k (get_or m k d) ≡ changed (later n) (k + 1) l
+  free_next o = changed_next (later n) k l m d (get_or m k d) h h' e (later_free n (get_or m k d) o)
 
 -- a timer is reached by an age that has stopped exactly when it would be by one that had not
 pub reach : (n a timer : ℕ) → timer ≤ 65535 → leb timer (aged n a) ≡ leb timer (a + n)

@@ -1,20 +1,20 @@
 -- What the ticks of a clock report come to by the timetable: the station n single ticks later.
 -- Assumes nothing.
-use Prim.Native.Nat.{ℕ, zero, suc, ◌+◌, ◌<◌}
+use Prim.Native.Nat.{ℕ, zero, suc, ◌+◌, ◌<◌, min}
 use native.Mathlib.Numerals.{add-one}
 use native.Mathlib.Omega.{arith}
-use mathlib.Core.Path.{◌≡◌, refl, sym, ap, ap₂, ◌∙◌}
+use mathlib.Core.Path.{◌≡◌, refl, subst, sym, ap, ap₂, ◌∙◌}
 use mathlib.Core.Bool.{Bool, true, false, cond, ◌&&◌, ◌||◌, or-false}
 use mathlib.Core.List.{List, ◌++◌, map}
 use borrow.Author.Tests.{le-leb, leb-true, lt-ltb}
 use lib.Dec.{leb, ltb}
-use lib.ListN.{take-append-drop}
+use lib.ListN.{length, take, drop, take-append-drop}
 use Rattle.clock.proofs.Ages.{tracks_now, tracks_older}
 use Rattle.clock.specs.Ages.{later_track}
 use Rattle.clock.specs.Hold.{hold_after, lowered}
 use Rattle.clock.specs.Timetable.{Timed, risk_at}
 use Rattle.clock.specs.declared.timing.Timetable.{Timetable}
-use Rattle.islands.proofs.Below.{any_map, changed, changed_drop, changed_take, count_map}
+use Rattle.islands.proofs.Below.{any_map, changed, changed_drop, changed_take, count_map, drop_least, take_least}
 use Rattle.rules.specs.Aspect.{greatest_risk, present, some_fresh}
 use Rattle.rules.specs.Reports.{all_older, fault_latched, hold_lowered, hold_set, late, older_track, tick, ticks}
 use Rattle.rules.specs.Station.{beyond, live, with_fault, with_hold, with_tracks}
@@ -116,8 +116,22 @@ module _ (s : Station) (r : Timetable) where
     ticks_are zero h = λ i. with_fault (with_tracks s (now_then i)) (sym (or-false s.fault) i)
     ticks_are (suc n) h = ap tick (ticks_are n (omega arith)) ∙ tick_then n h
 
-    -- what the code puts together
-    pub ticks_made : (n hold : ℕ) (l : List Track) → n < 65536 → hold ≡ hold_at n → l ≡ tracks_at n
-        → with_fault (with_hold (with_tracks s l) hold) (fault_at n) ≡ ticks n s
-    ticks_made n hold l k eh el = (λ i. with_fault (with_hold (with_tracks s (el i)) (eh i)) (fault_at n))
-        ∙ sym (ticks_are n k)
+-- what the code puts together
+pub ticks_made : (s : Station) (n j m hold : ℕ) (r : Timetable) (l : List Track) → length s.tracks ≡ 4 → n < 65536
+    → j ≡ min s.settings.tracks 4
+    → m ≡ n
+    → Timed s.settings (take j s.tracks) r
+    → l ≡ map (later_track n) (take j s.tracks)
+    → hold ≡ hold_after (risk_at r) s.settings.t4 s.hold n
+    → with_fault (with_hold (with_tracks s (l ++ drop j s.tracks)) hold) (s.fault || (ltb 0 n && leb r.late m))
+    ≡ ticks n s
+ticks_made s n j m hold r l len k ej em e el eh =
+    (λ i. with_fault (with_hold (with_tracks s (later_in_place i)) (eh i)) (s.fault || (ltb 0 n && leb r.late (em i))))
+    ∙ sym (ticks_are s r (subst (λ (x : List Track). Timed s.settings x r) same e) n k)
+  where
+    same : take j s.tracks ≡ live s
+    same = take_least s.tracks j s.settings.tracks 4 len ej
+
+    later_in_place : l ++ drop j s.tracks ≡ changed (later_track n) s.settings.tracks s.tracks
+    later_in_place =
+        ap₂ ◌++◌ (el ∙ ap (map (later_track n)) same) (drop_least s.tracks j s.settings.tracks 4 len ej)

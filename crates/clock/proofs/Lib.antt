@@ -1,5 +1,4 @@
 pub mod Ages
-pub mod FreeTracks
 pub mod Turned
 pub mod Timetables
 pub mod ByTimetable

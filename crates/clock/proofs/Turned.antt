@@ -4,18 +4,21 @@ use Prim.Native.Nat.{ℕ, ◌-◌, ◌+◌, ◌≤◌, ◌<◌, min, max, zero-l
 use native.Mathlib.Decide.{dec_le}
 use native.Mathlib.Nat.{lt_of_not-le}
 use native.Mathlib.Omega.{arith}
-use mathlib.Core.Path.{◌≡◌, refl, sym, ap, ap₂, ◌∙◌}
+use mathlib.Core.Path.{◌≡◌, sym, ap, ap₂, ◌∙◌}
 use mathlib.Core.Bool.{Bool, true, false, cond, not, ◌&&◌, ◌||◌, or-false, or-true, and-false, and-true}
 use mathlib.Core.List.{List, [], ◌∷◌, map}
 use borrow.Author.Tests.{le-leb, lt-leb, lt-ltb, le-ltb}
 use lib.Dec.{leb, ltb, leb-zero}
+use lib.ListN.{length}
+use Rattle.islands.proofs.Islands.{is_five}
 use Rattle.clock.proofs.Ages.{aged, later_is, reach, same_test}
 use Rattle.clock.specs.Ages.{later, later_track}
 use Rattle.clock.specs.Turns.{Turning, all_turns, never, no_turns, together, turns_in, turns_of}
 use Rattle.clock.specs.declared.turning.Turns.{Turns}
 use Rattle.rules.specs.Aspect.{fresh_approaching, held, present, some_fresh}
 use Rattle.rules.specs.Reports.{late}
-use Rattle.rules.specs.Station.{Zone, approaching, going_away, is_warning, timer, zones}
+use Rattle.rules.specs.Station.{Zone, advance, approaching, crossing, going_away}
+use Rattle.rules.specs.Station.{is_warning, island_at, timer, warning, zones}
 use Rattle.rules.specs.Words.{any_with}
 use Rattle.rules.specs.declared.Island.{Island}
 use Rattle.rules.specs.declared.Settings.{Settings}
@@ -136,56 +139,63 @@ turning c h h5 t =
       late = λ n soon. some_late c n soon h5 zones t.islands;
     }
 
--- ---- what the code makes of an island, and of five
+-- ---- the five islands, one after the other
 
--- an island's turns, from whether it is occupied
-abbrev turns_if : ℕ → ℕ → Bool → Island → Bool → Turns
-turns_if timer t5 w i o =
-    record {
-      fresh = cond (o && not i.leaving) (timer - i.age) 0;
-      present = cond (o && not i.leaving || w && (o && i.leaving)) 0 (cond o (timer - i.age) never);
-      late = cond (w && o) (t5 - i.age) never;
-    }
-
-pub turn_free : (timer t5 : ℕ) (w : Bool) (i : Island) → i.occupied ≡ false → no_turns ≡ turns_in timer t5 w i
-turn_free timer t5 true i e = ap (turns_if timer t5 true i) (sym e)
-turn_free timer t5 false i e = ap (turns_if timer t5 false i) (sym e)
-
-pub turn_made : (timer t5 : ℕ) (w : Bool) (i : Island) (h f p l e : ℕ) → i.occupied ≡ true
-    → h ≡ timer - i.age
-    → f ≡ cond (not i.leaving) h 0
-    → p ≡ cond (not i.leaving || w && i.leaving) 0 h
-    → l ≡ t5 - i.age
-    → e ≡ cond w l never
-    → ◌≡◌ {A = Turns} (record { fresh = f; present = p; late = e }) (turns_in timer t5 w i)
-turn_made timer t5 w i h f p l e o eh ef ep el ee = made ∙ ap (turns_if timer t5 w i) (sym o)
+together_assoc : (a b d : Turns) → together (together a b) d ≡ together a (together b d)
+together_assoc a b d = λ k. record {
+  fresh = fresh_assoc k;
+  present = least_assoc a.present b.present d.present k;
+  late = least_assoc a.late b.late d.late k;
+}
   where
-    late : (t : Bool) (n m : ℕ) → cond t n m ≡ cond (t && true) n m
-    late true n m = refl
-    late false n m = refl
+    fresh_assoc : max (max a.fresh b.fresh) d.fresh ≡ max a.fresh (max b.fresh d.fresh)
+    fresh_assoc = omega arith
 
-    made : ◌≡◌ {A = Turns} (record { fresh = f; present = p; late = e }) (turns_if timer t5 w i true)
-    made =
-        λ k.
-        record {
-          fresh = (ef ∙ ap (λ (n : ℕ). cond (not i.leaving) n 0) eh) k;
-          present = (ep ∙ ap (λ (n : ℕ). cond (not i.leaving || w && i.leaving) 0 n) eh) k;
-          late = (ee ∙ ap (λ (n : ℕ). cond w n never) el ∙ late w (t5 - i.age) never) k;
-        }
+    least_assoc : (x y z : ℕ) → min (min x y) z ≡ min x (min y z)
+    least_assoc x y z = omega arith
 
-pub turns_of_seen : (c : Settings) (i0 i1 i2 i3 i4 : Island) (t0 t1 t2 t3 t4 r4 r3 r2 r1 r0 : Turns)
-    → t0 ≡ turns_in c.t1 c.t5 false i0
-    → t1 ≡ turns_in c.t2 c.t5 true i1
-    → t2 ≡ turns_in c.t3 c.t5 false i2
-    → t3 ≡ turns_in c.t2 c.t5 true i3
-    → t4 ≡ turns_in c.t1 c.t5 false i4
-    → r4 ≡ together t4 no_turns
-    → r3 ≡ together t3 r4
-    → r2 ≡ together t2 r3
-    → r1 ≡ together t1 r2
-    → r0 ≡ together t0 r1
-    → r0 ≡ turns_of c (record { islands = i0 ∷ i1 ∷ i2 ∷ i3 ∷ i4 ∷ [] })
+-- no island's turns add nothing to those of one
+alone : (timer t5 : ℕ) (w : Bool) (i : Island) → timer ≤ 65535 → t5 ≤ 65535
+    → together (turns_in timer t5 w i) no_turns ≡ turns_in timer t5 w i
+alone timer t5 w i h h5 = λ k. record {
+  fresh = none_greater (turns_in timer t5 w i).fresh k;
+  present = ends (approaching i || w && going_away i) i.occupied k;
+  late = ends_late (w && i.occupied) k;
+}
+  where
+    none_greater : (x : ℕ) → max x 0 ≡ x
+    none_greater x = omega arith
+
+    ends : (p o : Bool) → min (cond p 0 (cond o (timer - i.age) never)) never ≡ cond p 0 (cond o (timer - i.age) never)
+    ends true o = omega arith
+    ends false true = omega arith
+    ends false false = omega arith
+
+    ends_late : (p : Bool) → min (cond p (t5 - i.age) never) never ≡ cond p (t5 - i.age) never
+    ends_late true = omega arith
+    ends_late false = omega arith
+
+in_a_row : (v w x y z : Turns)
+    → together (together (together (together v w) x) y) z ≡ together v (together w (together x (together y z)))
+in_a_row v w x y z =
+    together_assoc (together (together v w) x) y z
+    ∙ together_assoc (together v w) x (together y z)
+    ∙ together_assoc v w (together x (together y z))
+
+pub turns_of_seen : (c : Settings) (t : Track) → length t.islands ≡ 5 → c.t1 ≤ 65535 → c.t5 ≤ 65535
+    → (r1 r2 r3 r4 : Turns)
+    → r1 ≡ together (turns_in c.t1 c.t5 false (island_at t 0)) (turns_in c.t2 c.t5 true (island_at t 1))
+    → r2 ≡ together r1 (turns_in c.t3 c.t5 false (island_at t 2))
+    → r3 ≡ together r2 (turns_in c.t2 c.t5 true (island_at t 3))
+    → r4 ≡ together r3 (turns_in c.t1 c.t5 false (island_at t 4))
+    → r4 ≡ turns_of c t
 unfolding turns_of
-turns_of_seen c i0 i1 i2 i3 i4 t0 t1 t2 t3 t4 r4 r3 r2 r1 r0 e0 e1 e2 e3 e4 f4 f3 f2 f1 f0 =
-    f0 ∙ ap₂ together e0 (f1 ∙ ap₂ together e1 (f2
-    ∙ ap₂ together e2 (f3 ∙ ap₂ together e3 (f4 ∙ ap (λ (t : Turns). together t no_turns) e4))))
+turns_of_seen c t len h1 h5 r1 r2 r3 r4 e1 e2 e3 e4 =
+    rw (e4, e3, e2, e1)
+    (in_a_row (in_zone advance 0) (in_zone warning 1) (in_zone crossing 2) (in_zone warning 3) (in_zone advance 4)
+    ∙ ap (λ (x : Turns). together (in_zone advance 0) (together (in_zone warning 1) (together (in_zone crossing 2)
+    (together (in_zone warning 3) x)))) (sym (alone c.t1 c.t5 false (island_at t 4) h1 h5))
+    ∙ ap (turns_of c) (sym (is_five t len)))
+  where
+    in_zone : Zone → ℕ → Turns
+    in_zone z k = turns_in (timer c z) c.t5 (is_warning z) (island_at t k)

@@ -3,19 +3,18 @@ ghost use Rattle.std.specs.Prelude.{◌≡◌};
 ghost use Rattle.clock.specs.Hold.{hold_after, lowered as Hold·lowered};
 ghost use Rattle.clock.specs.Timetable.{risk_at};
 
-use crate::timing::{Timetable, risk_at};
+use crate::timing::Timetable;
 
 // The hold n single ticks later.
+#[tactic(auto, using(crate::proofs::ByTimetable::hold_more), unfolding(crate::specs::Hold::hold_after))]
 pub(crate) fn hold_after(table: Timetable, t4: u16, hold: u16, n: u16) -> u16
     ensures { result ≡ hold_after (risk_at table) t4 hold n }
 {
     let mut left = hold;
-    let mut risk = risk_at(table, 0);
-    let mut i: u16 = 0;
-    while i < n {
+    let mut risk = table.risk_at(0);
+    for i in 0..n {
         left = lowered(risk, left);
-        i += 1;
-        risk = risk_at(table, i);
+        risk = table.risk_at(i + 1);
         left = islands::held_up(risk, t4, left);
     }
     left
@@ -25,6 +24,5 @@ pub(crate) fn hold_after(table: Timetable, t4: u16, hold: u16, n: u16) -> u16
 fn lowered(risk: bool, hold: u16) -> u16
     ensures { result ≡ Hold·lowered risk hold }
 {
-    let falls = !risk & (0 < hold);
-    if falls { hold - 1 } else { hold }
+    if risk { hold } else { hold.saturating_sub(1) }
 }

@@ -3,7 +3,6 @@
 
 mod ageing;
 mod holding;
-mod numbers;
 mod ticking;
 mod timing;
 mod turning;

@@ -6,24 +6,25 @@
 ghost use Rattle.std.specs.Prelude.{◌≡◌};
 ghost use Rattle.rules.specs.Reports.{ticks as Reports·ticks};
 
-use crate::ageing::later_tracks;
+use crate::ageing::grow_older;
 use crate::holding::hold_after;
 use crate::timing::timetable_of;
 use rules::Station;
 
-// The station n single ticks later.
+// The station n single ticks later. Tracks beyond its number stay as they are.
+#[tactic(auto, using(crate::proofs::ByTimetable::ticks_made))]
 pub fn ticks(station: Station, n: u16) -> Station
     ensures { result ≡ Reports·ticks n station }
 {
     let settings = station.settings;
-    let tracks = station.tracks;
-    let table = timetable_of(settings, tracks);
-    let fault = station.fault | ((0 < n) & (table.late <= n as u32));
-    let hold = hold_after(table, settings.t4, station.hold, n);
-    let later = later_tracks(settings, tracks, n);
-    let mut next = station;
-    next.tracks = later;
-    next.hold = hold;
-    next.fault = fault;
-    next
+    let live = islands::live_tracks(settings.tracks);
+    let mut tracks = station.tracks;
+    let table = timetable_of(settings, &tracks[..live]);
+    grow_older(&mut tracks[..live], n);
+    Station {
+        tracks,
+        hold: hold_after(table, settings.t4, station.hold, n),
+        fault: station.fault | ((0 < n) & (table.late <= u32::from(n))),
+        ..station
+    }
 }

@@ -1,9 +1,8 @@
 // When the signs of the tracks turn: the timetable by which a clock report's ticks are walked.
-ghost use Rattle.std.specs.Prelude.{◌≡◌, take};
+ghost use Rattle.std.specs.Prelude.{◌≡◌};
 ghost use Rattle.clock.specs.Timetable.{Timed, risk_at, with_turns};
 
-use crate::numbers::{NEVER, greater, lesser};
-use crate::turning::{Turns, turns_of};
+use crate::turning::{NEVER, Turns, turns_of};
 use rules::{Settings, Track};
 
 // In ticks from now: until when a track has a fresh approaching island, from when one track counts for
@@ -16,46 +15,41 @@ pub(crate) struct Timetable {
     pub late: u32,
 }
 
-// The timetable of the tracks below the station's number. A track with no island occupied is passed over.
-pub(crate) fn timetable_of(settings: Settings, tracks: [Track; 4]) -> Timetable
-    ensures { Timed settings (take settings.tracks tracks) result }
+impl Timetable {
+    // The timetable with one more track in it.
+    fn with(self, turns: Turns) -> Self
+        ensures { result ≡ with_turns self turns }
+    {
+        Self {
+            fresh: self.fresh.max(turns.fresh),
+            first: self.first.min(turns.present),
+            second: self.second.min(self.first.max(turns.present)),
+            late: self.late.min(turns.late),
+        }
+    }
+
+    // The greatest-risk condition n ticks later.
+    pub(crate) fn risk_at(self, n: u16) -> bool
+        ensures { result ≡ risk_at self n }
+    {
+        let tick = u32::from(n);
+        (tick < self.fresh) & (self.second <= tick)
+    }
+}
+
+// The timetable of these tracks.
+#[tactic(auto, using(crate::proofs::Timetables::timed_next))]
+pub(crate) fn timetable_of(settings: Settings, tracks: &[Track]) -> Timetable
+    ensures { Timed settings tracks.now result }
 {
-    let live = islands::live_tracks(settings.tracks);
     let mut table = Timetable {
         fresh: 0,
         first: NEVER,
         second: NEVER,
         late: NEVER,
     };
-    let mut j: usize = 0;
-    while j < live {
-        let track = tracks[j];
-        let busy = islands::some_occupied(track);
-        if busy {
-            table = with_turns(table, turns_of(settings, track));
-        }
-        j += 1;
+    for track in tracks {
+        table = table.with(turns_of(settings, *track));
     }
     table
-}
-
-// The timetable with one more track in it.
-fn with_turns(table: Timetable, turns: Turns) -> Timetable
-    ensures { result ≡ with_turns table turns }
-{
-    let both = greater(table.first, turns.present);
-    Timetable {
-        fresh: greater(table.fresh, turns.fresh),
-        first: lesser(table.first, turns.present),
-        second: lesser(table.second, both),
-        late: lesser(table.late, turns.late),
-    }
-}
-
-// The greatest-risk condition n ticks later.
-pub(crate) fn risk_at(table: Timetable, n: u16) -> bool
-    ensures { result ≡ risk_at table n }
-{
-    let tick = n as u32;
-    (tick < table.fresh) & (table.second <= tick)
 }

@@ -2,37 +2,32 @@
 #![tactic(auto)]
 
 ghost use Rattle.std.specs.Prelude.{◌≡◌};
-ghost use Rattle.rules.specs.Screen.{or_else, our_number};
+ghost use Rattle.rules.specs.Answered.{given};
+ghost use Rattle.rules.specs.Screen.{our_number};
 ghost use Rattle.rules_json.specs.Grammar.{digit};
 
-// Above every number of ours: there is none.
-const NONE: u32 = 65536;
-
-// The number of ours that a text of digits stands for, and 65,536 where it is none.
-pub fn number_in(text: &[u8]) -> u32
-    ensures { result ≡ or_else 65536 (our_number 65535 text.now) }
+// The number of ours, 0 to 65,535, that a text of digits stands for.
+#[tactic(auto, using(crate::proofs::Counted::readings))]
+pub fn number_in(text: &[u8]) -> Option<u16>
+    ensures { given result ≡ our_number 65535 text.now }
 {
-    if text.len() == 0 {
-        return NONE;
+    if text.is_empty() {
+        return None;
     }
-    let mut number = 0;
-    let mut place = 0;
-    while place < text.len() {
-        let found = text[place];
+    let mut number: u16 = 0;
+    for &found in text {
         if !is_digit(found) {
-            return NONE;
+            return None;
         }
-        number = 10 * number + (found - b'0') as u32;
-        if NONE <= number {
-            return NONE;
-        }
-        place = place + 1;
+        number = number
+            .checked_mul(10)?
+            .checked_add(u16::from(found - b'0'))?;
     }
-    number
+    Some(number)
 }
 
 pub fn is_digit(found: u8) -> bool
     ensures { result ≡ digit found }
 {
-    (b'0' <= found) & (found <= b'9')
+    found.is_ascii_digit()
 }

@@ -1,2 +1,3 @@
+pub mod Lines
 -- The crate's lemmas.
 pub mod Places

@@ -1,32 +1,26 @@
--- Where an entry handed back lies in its register: what each way through the code returns is what the definition says.
+-- Where an entry handed back lies in its register, and how long it is.
 -- Assumes nothing.
-use Prim.Native.Nat.{ℕ, ◌-◌, ◌≤◌}
-use native.Mathlib.Omega.{arith}
-use mathlib.Core.Path.{◌≡◌, refl, sym, ap, ◌∙◌}
-use mathlib.Core.List.{List}
-use lib.ListN.{drop, length, length-drop}
+use Rattle.std.proofs.Common.{◌≡◌, ℕ, ◌+◌, ◌*◌, ◌-◌, ◌≤◌, List, drop, length, arith, sym, ap, ◌∙◌}
+use lib.ListN.{length-drop}
 use lib.Seq.{length-take-le}
-use Rattle.export.specs.declared.registers.Entry.{Entry}
-use Rattle.register.proofs.Returned.{entry_fits, part_done, part_refused}
+use Rattle.register.proofs.Returned.{fits, part_done, part_refused}
 use Rattle.rules.specs.Layout.{entry_at, entry_start}
 use Rattle.rules.specs.Register.{entry_answer, handed_back, handed_back_at}
+use mathlib.Core.Path.{refl}
 
--- as the promise says it
-abbrev place_of : List ℕ → ℕ → Entry
-place_of b k = record { answer = entry_answer b k; at = handed_back_at b k; length = length (handed_back b k) }
-
-module _ (b : List ℕ) (k n : ℕ) (e : n ≡ entry_answer b k) where
-  pub place_refused : (n ≡ 0 → ⊥) → (r : Entry) → r ≡ record { answer = n; at = 0; length = 0 } → r ≡ place_of b k
-  place_refused h r er = let p = part_refused b k n e h in
-      er ∙ (λ i. record { answer = e i; at = p.1 i; length = length (p.0 i) })
-
-  pub place_done : (z : n ≡ 0) → (r : Entry) → r ≡ record { answer = n; at = entry_start (k - 1); length = 8 }
-      → r ≡ place_of b k
+module _ (b : List ℕ) (k : ℕ) (z : entry_answer b k ≡ 0) where
+  pub place_done : (handed_back_at b k ≡ 16 + 8 * (k - 1)) × (length (handed_back b k) ≡ 8)
   unfolding entry_at
-  place_done z r er =
-      let p = part_done b k n e z (entry_at b (k - 1)) refl in
-      let l = sym (length-take-le 8 (drop (entry_start (k - 1)) b) room) ∙ ap length p.0 in
-      er ∙ (λ i. record { answer = e i; at = p.1 i; length = l i })
-    where
-      room : 8 ≤ length (drop (entry_start (k - 1)) b)
-      room = omega (arith, length-drop (entry_start (k - 1)) b, entry_fits b k n e z)
+  place_done =
+      let part = part_done b k 0 (sym z) refl (entry_at b (k - 1)) refl in
+      let room : 8 ≤ length (drop (entry_start (k - 1)) b) =
+      omega (arith, length-drop (entry_start (k - 1)) b, fits b k z) in
+      (sym part.1, ap length (sym part.0) ∙ length-take-le 8 (drop (entry_start (k - 1)) b) room)
+
+pub place_refused : (b : List ℕ) (k : ℕ) → (entry_answer b k ≡ 0 → ⊥)
+    → (handed_back_at b k ≡ 0) × (length (handed_back b k) ≡ 0)
+place_refused b k h =
+    let part = part_refused b k (entry_answer b k) refl h in
+    (sym part.1, ap length (sym part.0))
+
+pub ruleset places = (fits, place_done, place_refused)

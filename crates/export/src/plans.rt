@@ -19,7 +19,7 @@ pub extern "C" fn degvuurel_record(
     ensures register_after { register.new ≡ recorded_bytes text.now register.old }
     ensures rows_after { rows.new ≡ recorded_lines text.now rows.old }
 {
-    recorder::record(text, register, rows)
+    recorder::record(text, register, rows).into()
 }
 
 // What a line says, without its line feed.
@@ -27,5 +27,5 @@ pub extern "C" fn degvuurel_record(
 pub extern "C" fn degvuurel_line_in(line: &[u8]) -> Line
     ensures { result ≡ line_of line.now }
 {
-    plan_lines::line_in(line)
+    plan_lines::line_in(line).into()
 }

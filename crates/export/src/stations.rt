@@ -1,5 +1,6 @@
 // A station, the reports that it takes, and what it shows.
 ghost use Rattle.std.specs.Prelude.{◌≡◌};
+ghost use Rattle.rules.specs.Answered.{taken_in};
 ghost use Rattle.rules.specs.Answers.{answer_of, taken};
 ghost use Rattle.rules.specs.Aspect.{aspect_of, presence_of};
 ghost use Rattle.rules.specs.Heads.{head_outputs, heads_of};
@@ -7,7 +8,10 @@ ghost use Rattle.rules.specs.Outputs.{outputs_of};
 ghost use Rattle.rules.specs.Printer.{zones_of};
 ghost use Rattle.rules.specs.Station.{made};
 
-use rules::{HeadOutputs, Made, Report, Settings, Station, Taken, TrackPresence, ZoneDigits};
+use rules::{
+    DONE, HeadOutputs, Made, Refusal, Report, Settings, Station, Taken, TrackPresence, ZoneDigits,
+    answer_number,
+};
 
 // What each head shows: nine output bits.
 #[repr(C)]
@@ -35,7 +39,16 @@ pub struct Presence {
 pub extern "C" fn degvuurel_make(settings: Settings) -> Made
     ensures { result ≡ made settings }
 {
-    station::make(settings)
+    match station::make(settings) {
+        Ok(station) => Made {
+            answer: DONE,
+            station,
+        },
+        Err(refusal) => Made {
+            answer: refusal.into(),
+            station: station::least_station(),
+        },
+    }
 }
 
 // Takes a report, or refuses it and returns the old station.
@@ -43,7 +56,23 @@ pub extern "C" fn degvuurel_make(settings: Settings) -> Made
 pub extern "C" fn degvuurel_take(station: Station, report: Report) -> Taken
     ensures { result ≡ taken station report }
 {
-    reports::take(station, report)
+    taken(station, reports::take(station, report))
+}
+
+// What became of a report: a refused one returns the old station.
+pub(crate) fn taken(old: Station, outcome: Result<Station, Refusal>) -> Taken
+    ensures { result ≡ taken_in old outcome }
+{
+    match outcome {
+        Ok(station) => Taken {
+            answer: DONE,
+            station,
+        },
+        Err(refusal) => Taken {
+            answer: refusal.into(),
+            station: old,
+        },
+    }
 }
 
 // The number that a report is answered with, 0 to 8.
@@ -51,7 +80,7 @@ pub extern "C" fn degvuurel_take(station: Station, report: Report) -> Taken
 pub extern "C" fn degvuurel_answer(station: Station, report: Report) -> u8
     ensures { result ≡ answer_of station report }
 {
-    reports::answer(station, report)
+    answer_number(reports::answer(station, report))
 }
 
 // The aspect, 0 to 5. A station whose settings are outside their limits shows 5.
@@ -59,7 +88,7 @@ pub extern "C" fn degvuurel_answer(station: Station, report: Report) -> u8
 pub extern "C" fn degvuurel_aspect(station: Station) -> u8
     ensures { result ≡ aspect_of station }
 {
-    station::aspect(station)
+    station::aspect(station).into()
 }
 
 // What each head shows.

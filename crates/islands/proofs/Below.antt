@@ -7,9 +7,11 @@ use native.Mathlib.Numerals.{add-one}
 use native.Mathlib.Omega.{arith}
 use mathlib.Core.Path.{◌≡◌, refl, sym, ap, ap₂, ◌∙◌}
 use mathlib.Core.Bool.{Bool, true, false, cond, ◌&&◌, ◌||◌, false≢true, or-false, or-true, or_assoc}
-use mathlib.Core.List.{List, [], ◌∷◌, ◌++◌, map, map-append, append_assoc}
-use lib.ListN.{length, get_or, take, drop, set, length-map, drop_of_length-le}
-use lib.Seq.{take-suc, take_all, drop-cons, set_at, length-take-le, get_or_at, set-get_or}
+use mathlib.Core.List.{List, [], ◌∷◌, ◌++◌, map}
+use lib.ListN.{length, get_or, take, drop, set, drop_of_length-le}
+use lib.Seq.{take-suc, take_all}
+use Rattle.std.proofs.lemmas.List.Edits.{map_over_more}
+use Rattle.islands.proofs.Listed.{get_or_same}
 use Rattle.rules.specs.Words.{any, count}
 
 one_more : (b : Bool) (m n k : ℕ) → m ≡ n + k → cond b (suc m) m ≡ cond b (suc n) n + k
@@ -97,37 +99,11 @@ module _ {A : Type 0} (f : A → A) where
   abbrev pub changed : ℕ → List A → List A
   changed j l = map f (take j l) ++ drop j l
 
-  -- where the change has come to
-  seam : (l : List A) (j : ℕ) → j < length l → length (map f (take j l)) ≡ j
-  seam l j h = length-map (take j l) f ∙ length-take-le j l (omega arith)
-
-  pub changed_at : (j : ℕ) (l : List A) (d : A) → j < length l → get_or (changed j l) j d ≡ get_or l j d
-  changed_at j l d h =
-      rw (drop-cons l j d h) (get_or_at (map f (take j l)) (get_or l j d) (drop (suc j) l) d j (seam l j h))
-
-  grown : (j : ℕ) (l : List A) (d : A) → j < length l
-      → changed (j + 1) l ≡ map f (take j l) ++ f (get_or l j d) ∷ drop (suc j) l
-  grown j l d h = rw (add-one, take-suc l j d h, map-append, append_assoc)
-
-  pub changed_more : (j : ℕ) (l : List A) (d : A) → j < length l
-      → set (changed j l) j (f (get_or l j d)) ≡ changed (j + 1) l
-  changed_more j l d h =
-      ap (λ (m : List A). set (map f (take j l) ++ m) j (f (get_or l j d))) (drop-cons l j d h)
-      ∙ set_at (map f (take j l)) (get_or l j d) (drop (suc j) l) (f (get_or l j d)) j (seam l j h)
-      ∙ sym (grown j l d h)
-
   -- a store of what the change makes of the element that stands there
-  pub changed_next : (j : ℕ) (l m : List A) (d x : A) → j < length l → m ≡ changed j l → x ≡ f (get_or m j d)
-      → set m j x ≡ changed (j + 1) l
-  changed_next j l m d x h e g =
-      ap₂ (λ (k : List A) (y : A). set k j y) e (g ∙ ap (λ (k : List A). f (get_or k j d)) e
-      ∙ ap f (changed_at j l d h))
-      ∙ changed_more j l d h
-
-  -- an element that the change leaves as it is
-  pub changed_skip : (j : ℕ) (l m : List A) (d : A) → j < length l → m ≡ changed j l → f (get_or m j d) ≡ get_or m j d
-      → m ≡ changed (j + 1) l
-  changed_skip j l m d h e g = sym (set-get_or m j d) ∙ changed_next j l m d (get_or m j d) h e (sym g)
+  pub changed_next : (j : ℕ) (l m : List A) (d x : A) → j < length l → j < length m → m ≡ changed j l
+      → x ≡ f (get_or m j d) → set m j x ≡ changed (j + 1) l
+  changed_next j l m d x h k e g =
+      ap (set m j) g ∙ map_over_more f l m j (get_or m j d) h e (get_or_same m j d (get_or m j d) k)
 
   pub changed_take : (j : ℕ) (l : List A) → take j (changed j l) ≡ map f (take j l)
   changed_take zero l = refl
@@ -138,7 +114,3 @@ module _ {A : Type 0} (f : A → A) where
   changed_drop zero l = refl
   changed_drop (suc j) [] = refl
   changed_drop (suc j) (x ∷ xs) = changed_drop j xs
-
-  pub changed_least : (l : List A) (j n m : ℕ) → length l ≡ m → j ≡ min n m → changed j l ≡ changed n l
-  changed_least l j n m e end =
-      ap₂ (λ (a b : List A). map f a ++ b) (take_least l j n m e end) (drop_least l j n m e end)

@@ -1,67 +1,59 @@
 -- A track's signs, from what is seen of each of its five islands.
 -- Assumes nothing.
-use Prim.Native.Nat.{ℕ}
-use mathlib.Core.Path.{◌≡◌, refl, sym, ap}
-use mathlib.Core.Bool.{Bool, true, false, not, ◌&&◌, ◌||◌, or-false}
-use mathlib.Core.List.{[], ◌∷◌}
-use lib.Dec.{leb}
-use Rattle.islands.proofs.Islands.{any_island_lem}
-use Rattle.islands.specs.Signs.{seen_of, signs_of}
+use mathlib.Core.Path.{◌≡◌, refl, sym, ◌∙◌}
+use mathlib.Core.Bool.{Bool, true, false, not, ◌&&◌, ◌||◌, or-false, or-true}
+use lib.ListN.{length}
+use Rattle.islands.proofs.Islands.{is_five}
+use Rattle.islands.specs.Signs.{seen_of, seen_together, signs_of}
 use Rattle.islands.specs.declared.Signs.{Signs}
 use Rattle.islands.specs.declared.shown.Seen.{Seen}
 use Rattle.rules.specs.Aspect.{fresh_advance, fresh_approaching, fresh_near, held, present, some_fresh, some_held}
-use Rattle.rules.specs.Station.{approaching, crossing, going_away, is_advance, is_warning, warning}
+use Rattle.rules.specs.Station.{Zone, advance, any_island, approaching, crossing, going_away}
+use Rattle.rules.specs.Station.{is_advance, is_warning, island_at, warning}
 use Rattle.rules.specs.declared.Island.{Island}
 use Rattle.rules.specs.declared.Settings.{Settings}
 use Rattle.rules.specs.declared.Track.{Track}
 
+-- A track's islands are seen in another order than they are numbered in: the near ones first, then those ahead.
+in_order : (a b c d e : Bool) → ((b || d) || c) || (a || e) ≡ a || (b || (c || (d || (e || false))))
+in_order true b c d e = or-true ((b || d) || c)
+in_order false true c d e = refl
+in_order false false c true e = sym (or-true c)
+in_order false false true false e = refl
+in_order false false false false e = sym (or-false e)
+
+any_seen : (p : Zone → Island → Bool) (t : Track) → length t.islands ≡ 5
+    → ((p warning (island_at t 1) || p warning (island_at t 3)) || p crossing (island_at t 2))
+    || (p advance (island_at t 0) || p advance (island_at t 4)) ≡ any_island p t
+any_seen p t e =
+    rw (is_five t e)
+    (in_order (p advance (island_at t 0)) (p warning (island_at t 1)) (p crossing (island_at t 2))
+    (p warning (island_at t 3)) (p advance (island_at t 4)))
+
 -- No sixth island adds to them.
-pub signs_of_seen : (c : Settings) (i0 i1 i2 i3 i4 : Island) (s0 s1 s2 s3 s4 : Seen)
-    → s0 ≡ seen_of c.t1 false i0
-    → s1 ≡ seen_of c.t2 true i1
-    → s2 ≡ seen_of c.t3 false i2
-    → s3 ≡ seen_of c.t2 true i3
-    → s4 ≡ seen_of c.t1 false i4
+pub signs_of_seen : (c : Settings) (t : Track) → length t.islands ≡ 5
+    → (near ahead all : Seen)
+    → near ≡ seen_together (seen_together (seen_of c.t2 true (island_at t 1)) (seen_of c.t2 true (island_at t 3)))
+    (seen_of c.t3 false (island_at t 2))
+    → ahead ≡ seen_together (seen_of c.t1 false (island_at t 0)) (seen_of c.t1 false (island_at t 4))
+    → all ≡ seen_together near ahead
     → ◌≡◌ {A = Signs}
     record {
-      fresh = s0.fresh || (s1.fresh || (s2.fresh || (s3.fresh || s4.fresh)));
-      present = s0.present || (s1.present || (s2.present || (s3.present || s4.present)));
-      near = s1.fresh || (s2.fresh || s3.fresh);
-      ahead = s0.fresh || s4.fresh;
-      held = s0.held || (s1.held || (s2.held || (s3.held || s4.held)));
+      fresh = all.fresh;
+      present = all.present;
+      near = near.fresh;
+      ahead = ahead.fresh;
+      held = all.held;
     }
-    (signs_of c (record { islands = i0 ∷ i1 ∷ i2 ∷ i3 ∷ i4 ∷ [] }))
+    (signs_of c t)
 unfolding signs_of some_fresh present fresh_near fresh_advance some_held
-signs_of_seen c i0 i1 i2 i3 i4 s0 s1 s2 s3 s4 e0 e1 e2 e3 e4 =
-    rw (e0, e1, e2, e3, e4)
+signs_of_seen c t five near ahead all e f g =
+    rw (g, e, f)
     (λ k.
     record {
-      fresh = any_island_lem (fresh_approaching c) t refl k;
-      present = any_island_lem (λ z i. approaching i || held c z i || is_warning z && going_away i) t refl k;
-      near = (ap (λ (b : Bool). fresh_approaching c warning i1 || (fresh_approaching c crossing i2 || b))
-          (sym (or-false (fresh_approaching c warning i3)))) k;
-      ahead = any_island_lem (λ z i. is_advance z && fresh_approaching c z i) t refl k;
-      held = any_island_lem (held c) t refl k;
+      fresh = any_seen (fresh_approaching c) t five k;
+      present = any_seen (λ z i. approaching i || held c z i || is_warning z && going_away i) t five k;
+      near = (sym (or-false _) ∙ any_seen (λ z i. not (is_advance z) && fresh_approaching c z i) t five) k;
+      ahead = any_seen (λ z i. is_advance z && fresh_approaching c z i) t five k;
+      held = any_seen (held c) t five k;
     })
-  where
-    t : Track
-    t = record { islands = i0 ∷ i1 ∷ i2 ∷ i3 ∷ i4 ∷ [] }
-
--- ---- one island, free or occupied
-
--- what an island adds, from whether it is occupied
-abbrev seen_if : ℕ → Bool → Island → Bool → Seen
-seen_if timer w i o =
-    record {
-      fresh = o && not (leb timer i.age) && (o && not i.leaving);
-      held = o && leb timer i.age;
-      present = o && not i.leaving || o && leb timer i.age || w && (o && i.leaving);
-    }
-
-pub seen_free : (timer : ℕ) (w : Bool) (i : Island) → i.occupied ≡ false
-    → ◌≡◌ {A = Seen} (record { fresh = false; held = false; present = false }) (seen_of timer w i)
-seen_free timer true i e = ap (seen_if timer true i) (sym e)
-seen_free timer false i e = ap (seen_if timer false i) (sym e)
-
-pub seen_occupied : (timer : ℕ) (w : Bool) (i : Island) → i.occupied ≡ true → seen_if timer w i true ≡ seen_of timer w i
-seen_occupied timer w i e = ap (seen_if timer w i) (sym e)

@@ -26,3 +26,8 @@ seen_of timer warning i =
       held = i.occupied && leb timer i.age;
       present = approaching i || i.occupied && leb timer i.age || warning && going_away i;
     }
+
+-- two parts of them together
+abbrev pub seen_together : Seen → Seen → Seen
+seen_together a b =
+    record { fresh = a.fresh || b.fresh; held = a.held || b.held; present = a.present || b.present }

@@ -8,8 +8,7 @@ use rules::Settings;
 pub fn within_limits(settings: Settings) -> bool
     ensures { result ≡ within_limits settings }
 {
-    (1 <= settings.tracks)
-        & (settings.tracks <= 4)
+    (1..=4).contains(&settings.tracks)
         & (1 <= settings.t1)
         & (1 <= settings.t2)
         & (1 <= settings.t3)
@@ -21,5 +20,5 @@ pub fn within_limits(settings: Settings) -> bool
 pub fn live_tracks(tracks: u8) -> usize
     ensures { result ≡ min tracks 4 }
 {
-    if tracks < 4 { tracks as usize } else { 4 }
+    usize::from(tracks).min(4)
 }

@@ -1,6 +1,6 @@
 -- What stands behind a place: its first octet, and the part of the text that the code hands on.
 -- Assumes nothing.
-use mathlib.Core.Path.{◌≡◌, ap, sym, ◌∙◌}
+use mathlib.Core.Path.{◌≡◌, sym, ◌∙◌}
 use mathlib.Core.Bool.{false, true}
 use mathlib.Core.List.{List}
 use Prim.Native.Nat.{ℕ, ◌-◌}
@@ -15,13 +15,6 @@ use Rattle.json_reader.proofs.Places.{first_behind}
 module _ (text : List ℕ) (place : ℕ) where
   pub part_behind : take (length text - place) (drop place text) ≡ drop place text
   part_behind = take_all (length text - place) (drop place text) (omega (arith, length-drop place text))
-
-  -- its first octet, and its length
-  pub part_first : at (take (length text - place) (drop place text)) 0 ≡ at text place
-  part_first = ap (λ l. at l 0) part_behind ∙ first_behind text place
-
-  pub part_length : length (take (length text - place) (drop place text)) ≡ length text - place
-  part_length = ap length part_behind ∙ length-drop place text
 
   module _ (b : ℕ) where
     pub here : at text place ≡ b → eqb (at (drop place text) 0) b ≡ true

@@ -2,6 +2,7 @@ pub mod Cases
 pub mod Places
 pub mod Leading
 pub mod Further
+pub mod Read
 pub mod NumberSizes
 pub mod CharacterSizes
 pub mod Spelt
@@ -10,6 +11,7 @@ pub mod Turning
 pub mod Ending
 pub mod Quoted
 pub mod Bracketed
+pub mod Walked
 pub mod Nested
 pub mod Named
 pub mod Scalars

@@ -2,26 +2,17 @@
 -- Assumes nothing.
 use mathlib.Core.Path.{◌≡◌, refl, sym, ap, ◌∙◌}
 use mathlib.Core.List.{List, [], ◌∷◌}
-use Prim.Native.Nat.{ℕ, zero, suc, ◌+◌, ◌-◌}
-use native.Mathlib.Nat.{add-zero}
-use native.Mathlib.Numerals.{sub-one}
+use Prim.Native.Nat.{ℕ, zero, suc, ◌+◌, ◌-◌, ◌≤◌}
 use native.Mathlib.Omega.{arith}
 use lib.ListN.{drop}
-use Rattle.rules_json.specs.Reader.{
-  at,
-  bracketed_size,
-  digits,
-  further,
-  int_size,
-  member_size,
-  name_size,
-  number_size,
-  scalar_size,
-  value_size,
-}
+use Rattle.rules_json.specs.Reader.{at, bracketed_size, digits, int_size}
+use Rattle.rules_json.specs.Reader.{member_size, name_size, number_size, scalar_size, value_size}
 use Rattle.json_reader.proofs.Behind.{here, not_here}
-use Rattle.json_reader.proofs.Further.{cond_some, further_none, further_some}
-use Rattle.json_reader.proofs.Places.{first_behind, measured_behind}
+use Rattle.json_reader.proofs.Further.{cond_none, cond_some}
+use Rattle.json_reader.proofs.Places.{first_behind, text_behind}
+use Rattle.json_reader.proofs.Read.{none_read, past_further, past_none, some_read}
+use Rattle.json_reader.specs.Places.{past}
+use Rattle.std.specs.Prelude.{None, Some}
 
 -- ---- values
 
@@ -37,48 +28,50 @@ module _ (text : List ℕ) (place : ℕ) where
   scalar_value zero h k = refl
   scalar_value (suc deep) h k = rw (not_here text place 0x7B h, not_here text place 0x5B k)
 
-  pub list_value : (deep : ℕ) → (deep ≡ 0 → ⊥) → at text place ≡ 0x5B
-      → value_size deep (drop place text) ≡ bracketed_size 0x5D (value_size (deep - 1)) (drop place text)
-  unfolding value_size
-  list_value zero some e = absurd (some refl)
-  list_value (suc deep) some e =
-      rw (not_here text place 0x7B (λ h. omega arith), here text place 0x5B e, sub-one (suc deep))
+  module _ (deep inside : ℕ) (h : (1 ≤ deep) × (inside ≡ deep - 1)) where
+    deeper : deep ≡ suc inside
+    deeper = omega arith
 
-  pub object_value : (deep : ℕ) → (deep ≡ 0 → ⊥) → at text place ≡ 0x7B
-      → value_size deep (drop place text) ≡ bracketed_size 0x7D (member_size (value_size (deep - 1))) (drop place text)
-  unfolding value_size
-  object_value zero some e = absurd (some refl)
-  object_value (suc deep) some e = rw (here text place 0x7B e, sub-one (suc deep))
+    pub list_value : at text place ≡ 0x5B
+        → value_size deep (drop place text) ≡ bracketed_size 0x5D (value_size inside) (drop place text)
+    unfolding value_size
+    list_value e =
+        ap (λ d. value_size d (drop place text)) deeper
+        ∙ rw (not_here text place 0x7B (λ h. omega arith), here text place 0x5B e) refl
 
-  module _ (deep : ℕ) (none : deep ≡ 0) where
-    pub no_list : at text place ≡ 0x5B → place ≡ place + value_size deep (drop place text)
+    pub object_value : at text place ≡ 0x7B
+        → value_size deep (drop place text) ≡ bracketed_size 0x7D (member_size (value_size inside)) (drop place text)
+    unfolding value_size
+    object_value e = ap (λ d. value_size d (drop place text)) deeper ∙ rw (here text place 0x7B e) refl
+
+  module _ (deep : ℕ) (shallow : 1 ≤ deep → ⊥) where
+    none : deep ≡ 0
+    none = omega arith
+
+    pub no_list : at text place ≡ 0x5B → None ≡ past place (value_size deep (drop place text))
     unfolding value_size scalar_size number_size int_size digits
-    no_list e = rw (none, no_scalar 0x5B (λ s. refl) (drop place text) (first_behind text place ∙ e), add-zero place)
+    no_list e =
+        sym (past_none place (rw none (no_scalar 0x5B (λ s. refl) (drop place text) (first_behind text place ∙ e))))
 
-    pub no_object : at text place ≡ 0x7B → place ≡ place + value_size deep (drop place text)
+    pub no_object : at text place ≡ 0x7B → None ≡ past place (value_size deep (drop place text))
     unfolding value_size scalar_size number_size int_size digits
-    no_object e = rw (none, no_scalar 0x7B (λ s. refl) (drop place text) (first_behind text place ∙ e), add-zero place)
+    no_object e =
+        sym (past_none place (rw none (no_scalar 0x7B (λ s. refl) (drop place text) (first_behind text place ∙ e))))
 
 -- ---- members: a name, and what stands behind it
 
-module _ (inner : List ℕ → ℕ) (text : List ℕ) (place value : ℕ) (p : value ≡ place + name_size (drop place text)) where
-  pub no_name : value ≡ place → place ≡ place + member_size inner (drop place text)
-  no_name e =
-      let none : name_size (drop place text) ≡ 0 = omega arith in
-      rw (none, add-zero place)
+module _ (inner : List ℕ → ℕ) (text : List ℕ) (place : ℕ) where
+  pub no_name : None ≡ past place (name_size (drop place text))
+      → None ≡ past place (member_size inner (drop place text))
+  no_name e = sym (past_none place (cond_none _ _ (none_read place (name_size (drop place text)) e)))
 
-  module _ (named : value ≡ place → ⊥) (past : ℕ) (q : past ≡ value + inner (drop value text)) where
-    abbrev behind : ℕ
-    behind = inner (drop (name_size (drop place text)) (drop place text))
-
-    behind_name : past ≡ (place + name_size (drop place text)) + behind
-    behind_name = measured_behind text place inner (name_size (drop place text)) value past p q
-
-    member_is : member_size inner (drop place text) ≡ further (name_size (drop place text)) behind
-    member_is = cond_some (name_size (drop place text)) _ (λ e. named (omega arith))
-
-    pub no_value_lem : past ≡ value → place ≡ place + member_size inner (drop place text)
-    no_value_lem e = further_none place _ _ past behind_name (e ∙ p) ∙ ap (place +◌) (sym member_is)
-
-    pub member : (past ≡ value → ⊥) → past ≡ place + member_size inner (drop place text)
-    member some = further_some place _ _ past behind_name (λ e. some (e ∙ sym p)) ∙ ap (place +◌) (sym member_is)
+  -- past a member where it is past its value
+  pub member : (value : ℕ) → Some value ≡ past place (name_size (drop place text))
+      → past value (inner (drop value text)) ≡ past place (member_size inner (drop place text))
+  member value e =
+      let (name, some) = some_read place (name_size (drop place text)) value e in
+      ap (λ k. past k (inner (drop k text))) name
+      ∙ ap (λ s. past (place + name_size (drop place text)) (inner s))
+      (sym (text_behind text place (name_size (drop place text))))
+      ∙ sym (past_further place (name_size (drop place text)) _)
+      ∙ ap (past place) (sym (cond_some _ _ some))

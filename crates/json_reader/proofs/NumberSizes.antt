@@ -1,124 +1,106 @@
--- The size of a number's parts: what each way through the code returns.
+-- Past a number and its parts.
 -- Assumes nothing.
 use Prim.Native.Nat.{ℕ, ◌+◌}
-use mathlib.Core.Bool.{Bool, cond, false, not, true}
+use mathlib.Core.Bool.{Bool, cond, false, true}
 use mathlib.Core.List.{List}
-use mathlib.Core.Path.{◌≡◌, refl, sym, ◌∙◌}
-use native.Mathlib.Nat.{add-zero}
+use mathlib.Core.Path.{◌≡◌, ap, refl, sym, ◌∙◌}
 use native.Mathlib.Omega.{arith}
-use borrow.Author.Tests.{eq-eqb, ne_eqb, not-false, not-true}
+use borrow.Author.Tests.{eq-eqb, ne_eqb}
 use lib.Dec.{eqb}
 use lib.ListN.{drop}
-use Rattle.json_reader.proofs.Further.{cond_none, cond_some, further_none, further_some}
-use Rattle.json_reader.proofs.Places.{first_is, measured_behind}
+use Rattle.std.specs.Prelude.{None, Some, unwrap_or}
+use Rattle.json_reader.proofs.Further.{cond_none, cond_some}
+use Rattle.json_reader.proofs.Places.{first_behind, text_behind}
+use Rattle.json_reader.proofs.Read.{none_read, past_further, past_none, past_some, read_or_not, some_read}
+use Rattle.json_reader.specs.Places.{past}
 use Rattle.rules_json.specs.Grammar.{e}
 use Rattle.rules_json.specs.Reader.{at, digits, exp_size, frac_size, further, int_size, minus_size, number_size}
-use Rattle.rules_json.specs.Reader.{rest_size}
-use Rattle.rules_json.specs.Reader.{sign_size, unsigned_size}
+use Rattle.rules_json.specs.Reader.{rest_size, sign_size, unsigned_size}
 
-module _ (text : List ℕ) (p found : ℕ) (is : found ≡ at text p) where
-  -- n octets where the first is of a class, or none
-  module _ (class : ℕ → Bool) where
-    pub some_taken : (n : ℕ) → class found ≡ true → p + n ≡ p + cond (class (at (drop p text) 0)) n 0
-    some_taken n h = first_is text p class found is (λ t. cond t n 0) true h
+module _ (p : ℕ) (text : List ℕ) where
+  -- ---- int
 
-    pub none_taken : (n : ℕ) → class found ≡ false → p ≡ p + cond (class (at (drop p text) 0)) n 0
-    none_taken n h = sym (add-zero p) ∙ first_is text p class found is (λ t. cond t n 0) false h
-
-  abbrev zero? : ℕ → Bool
-  zero? b = eqb b 0x30
-
-  abbrev or_digits : Bool → ℕ
-  or_digits t = cond t 1 (digits (drop p text))
-
-  pub int_zero : found ≡ 0x30 → p + 1 ≡ p + int_size (drop p text)
+  int_by : {t : Bool} → eqb (at text p) 0x30 ≡ t → int_size (drop p text) ≡ cond t 1 (digits (drop p text))
   unfolding int_size
-  int_zero h = first_is text p zero? found is or_digits true (eq-eqb _ _ h)
+  int_by h = ap (λ b. cond (eqb b 0x30) 1 (digits (drop p text))) (first_behind text p)
+      ∙ ap (λ (t : Bool). cond t 1 (digits (drop p text))) h
 
-  pub int_digits : (found ≡ 0x30 → ⊥) → (r : ℕ) → r ≡ p + digits (drop p text) → r ≡ p + int_size (drop p text)
-  unfolding int_size
-  int_digits h r er = er ∙ first_is text p zero? found is or_digits false (ne_eqb _ _ h)
+  pub int_zero : at text p ≡ 0x30 → past p (int_size (drop p text)) ≡ Some (p + 1)
+  int_zero h = ap (past p) (int_by (eq-eqb _ _ h)) ∙ past_some p (λ z. omega arith) refl
 
-  abbrev point? : ℕ → Bool
-  point? b = eqb b 0x2E
+  pub int_digits : (at text p ≡ 0x30 → ⊥) → past p (int_size (drop p text)) ≡ past p (digits (drop p text))
+  int_digits h = ap (past p) (int_by (ne_eqb _ _ h))
 
-  pub frac_absent : (found ≡ 0x2E → ⊥) → p ≡ p + frac_size (drop p text)
+  -- ---- frac
+
+  -- digits behind n octets
+  abbrev digits_behind : ℕ → ℕ
+  digits_behind n = digits (drop n (drop p text))
+
+  behind : (n : ℕ) → past p (further n (digits_behind n)) ≡ past (p + n) (digits (drop (p + n) text))
+  behind n = past_further p n (digits_behind n) ∙ ap (λ s. past (p + n) (digits s)) (text_behind text p n)
+
+  frac_by : {t : Bool} → eqb (at text p) 0x2E ≡ t → frac_size (drop p text) ≡ cond t (further 1 (digits_behind 1)) 0
   unfolding frac_size
-  frac_absent h = none_taken point? _ (ne_eqb _ _ h)
+  frac_by h = ap (λ b. cond (eqb b 0x2E) (further 1 (digits_behind 1)) 0) (first_behind text p)
+      ∙ ap (λ (t : Bool). cond t (further 1 (digits_behind 1)) 0) h
 
-  module _ (h : found ≡ 0x2E) (past : ℕ) (ep : past ≡ (p + 1) + digits (drop (p + 1) text)) where
-    frac_behind : past ≡ (p + 1) + digits (drop 1 (drop p text))
-    frac_behind = measured_behind text p digits 1 (p + 1) past refl ep
+  pub no_frac : (at text p ≡ 0x2E → ⊥) → past p (frac_size (drop p text)) ≡ None
+  no_frac h = past_none p (frac_by (ne_eqb _ _ h))
 
-    frac_there : p + further 1 (digits (drop 1 (drop p text))) ≡ p + frac_size (drop p text)
-    unfolding frac_size
-    frac_there = some_taken point? (further 1 (digits (drop 1 (drop p text)))) (eq-eqb _ _ h)
+  pub some_frac : at text p ≡ 0x2E → past p (frac_size (drop p text)) ≡ past (p + 1) (digits (drop (p + 1) text))
+  some_frac h = ap (past p) (frac_by (eq-eqb _ _ h)) ∙ behind 1
 
-    pub frac_none : past ≡ p + 1 → p ≡ p + frac_size (drop p text)
-    frac_none z = further_none p 1 _ past frac_behind z ∙ frac_there
+  -- ---- exp
 
-    pub frac_some : (past ≡ p + 1 → ⊥) → past ≡ p + frac_size (drop p text)
-    frac_some z = further_some p 1 _ past frac_behind z ∙ frac_there
+  -- the octets up to the power's digits
+  abbrev head : ℕ
+  head = 1 + sign_size (drop 1 (drop p text))
 
-  pub exp_absent : not (e found) ≡ true → p ≡ p + exp_size (drop p text)
+  exp_by : {t : Bool} → e (at text p) ≡ t → exp_size (drop p text) ≡ cond t (further head (digits_behind head)) 0
   unfolding exp_size
-  exp_absent h = none_taken e _ (not-true _ h)
+  exp_by h = ap (λ b. cond (e b) (further head (digits_behind head)) 0) (first_behind text p)
+      ∙ ap (λ (t : Bool). cond t (further head (digits_behind head)) 0) h
 
-  module _ (h : not (e found) ≡ false) (power past : ℕ) (ew : power ≡ (p + 1) + sign_size (drop (p + 1) text))
-      (ep : past ≡ power + digits (drop power text)) where
-    -- the octets up to the power's digits
-    abbrev head : ℕ
-    head = 1 + sign_size (drop 1 (drop p text))
+  pub no_exp : e (at text p) ≡ false → past p (exp_size (drop p text)) ≡ None
+  no_exp h = past_none p (exp_by h)
 
-    exp_head : power ≡ p + head
-    exp_head = omega (arith, measured_behind text p sign_size 1 (p + 1) power refl ew)
+  pub some_exp : e (at text p) ≡ true → (power : ℕ) → power ≡ (p + 1) + sign_size (drop (p + 1) text)
+      → past p (exp_size (drop p text)) ≡ past power (digits (drop power text))
+  some_exp h power q =
+      ap (past p) (exp_by h) ∙ behind head
+      ∙ ap (λ k. past k (digits (drop k text))) (omega (arith, q, ap sign_size (text_behind text p 1)))
 
-    exp_behind : past ≡ (p + head) + digits (drop head (drop p text))
-    exp_behind = measured_behind text p digits head power past exp_head ep
+-- ---- number
 
-    exp_there : p + further head (digits (drop head (drop p text))) ≡ p + exp_size (drop p text)
-    unfolding exp_size
-    exp_there = some_taken e (further head (digits (drop head (drop p text)))) (not-false _ h)
+module _ (p whole : ℕ) (text : List ℕ) (m : whole ≡ p + minus_size (drop p text)) where
+  -- what stands behind the minus
+  signed : number_size (drop p text) ≡ further (minus_size (drop p text)) (unsigned_size (drop whole text))
+  unfolding number_size
+  signed =
+      ap (further (minus_size (drop p text)))
+      (ap unsigned_size (text_behind text p _ ∙ ap (λ k. drop k text) (sym m)))
 
-    pub exp_none : past ≡ power → p ≡ p + exp_size (drop p text)
-    exp_none z = further_none p head _ past exp_behind (z ∙ exp_head) ∙ exp_there
+  from_whole : past p (number_size (drop p text)) ≡ past whole (unsigned_size (drop whole text))
+  from_whole =
+      ap (past p) signed ∙ past_further p _ _ ∙ ap (λ k. past k (unsigned_size (drop whole text))) (sym m)
 
-    pub exp_some : (past ≡ power → ⊥) → past ≡ p + exp_size (drop p text)
-    exp_some z = further_some p head _ past exp_behind (λ y. z (y ∙ sym exp_head)) ∙ exp_there
+  pub no_number : None ≡ past whole (int_size (drop whole text)) → past p (number_size (drop p text)) ≡ None
+  no_number h = from_whole ∙ past_none whole (cond_none _ _ (none_read whole _ h))
 
--- the fraction and the exponent
-rest_is : (text : List ℕ) (p past r : ℕ) → past ≡ p + frac_size (drop p text) → r ≡ past + exp_size (drop past text)
-    → r ≡ p + rest_size (drop p text)
-rest_is text p past r ef er = omega (arith, measured_behind text p exp_size _ past r ef er)
-
-module _ (text : List ℕ) (whole past : ℕ) (ei : past ≡ whole + int_size (drop whole text)) where
-  abbrev int : ℕ
-  int = int_size (drop whole text)
-
-  abbrev more : ℕ
-  more = rest_size (drop int (drop whole text))
-
-  unsigned_none : past ≡ whole → whole ≡ whole + unsigned_size (drop whole text)
-  unsigned_none z = omega (arith, cond_none int (int + more) (omega arith))
-
-  unsigned_some : (past ≡ whole → ⊥) → (r : ℕ) → r ≡ past + rest_size (drop past text)
-      → r ≡ whole + unsigned_size (drop whole text)
-  unsigned_some z r er =
-      let behind = measured_behind text whole rest_size int past r ei er in
-      omega (arith, behind, cond_some int (int + more) (λ y. z (omega arith)))
-
-  module _ (p : ℕ) (em : whole ≡ p + minus_size (drop p text)) where
-    signed : (r : ℕ) → r ≡ whole + unsigned_size (drop whole text)
-        → r ≡ (p + minus_size (drop p text)) + unsigned_size (drop (minus_size (drop p text)) (drop p text))
-    signed r er = measured_behind text p unsigned_size _ whole r em er
-
-    pub number_none : past ≡ whole → p ≡ p + number_size (drop p text)
-    unfolding number_size
-    number_none z = further_none p _ _ whole (signed whole (unsigned_none z)) em
-
-    pub number_some : (past ≡ whole → ⊥) → (behind r : ℕ) → behind ≡ past + frac_size (drop past text)
-        → r ≡ behind + exp_size (drop behind text) → r ≡ p + number_size (drop p text)
-    unfolding number_size
-    number_some z behind r ef er =
-        let rest = rest_is text past behind r ef er in
-        further_some p _ _ r (signed r (unsigned_some z r rest)) (λ y. z (omega arith))
+  pub some_number : (after : ℕ) → Some after ≡ past whole (int_size (drop whole text))
+      → (point : ℕ) → point ≡ unwrap_or (past after (frac_size (drop after text))) after
+      → (end : ℕ) → end ≡ unwrap_or (past point (exp_size (drop point text))) point
+      → past p (number_size (drop p text)) ≡ Some end
+  some_number after h point f end x =
+      let (int, some) = some_read whole _ after h in
+      let rest : drop (int_size (drop whole text)) (drop whole text) ≡ drop after text =
+      text_behind text whole _ ∙ ap (λ k. drop k text) (sym int) in
+      let frac = f ∙ read_or_not after (frac_size (drop after text)) in
+      let exp = x ∙ read_or_not point (exp_size (drop point text)) in
+      let behind : drop (frac_size (drop after text)) (drop after text) ≡ drop point text =
+      text_behind text after _ ∙ ap (λ k. drop k text) (sym frac) in
+      let size = cond_some _ _ some ∙ ap (λ s. int_size (drop whole text) + rest_size s) rest in
+      from_whole
+      ∙ past_some whole (λ z. some (omega (arith, size, z)))
+      (omega (arith, int, size, frac, exp, ap exp_size behind))

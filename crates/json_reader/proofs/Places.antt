@@ -31,14 +31,5 @@ module _ (text : List ℕ) (p : ℕ) where
   in_text h =
       by_test (ltb p (length text)) (ltb-true _ _) (λ e. absurd (h (get_or-eq_default text 0 (ltb-false _ _ e))))
 
-  pub found_in_text : {found : ℕ} → found ≡ at text p → (found ≡ 0 → ⊥) → p < length text
-  found_in_text o h = in_text (λ e. h (o ∙ e))
-
-  -- the octet found there
-  module _ (class : ℕ → Bool) (found : ℕ) (e : found ≡ at text p) where
-    pub first_is : (f : Bool → ℕ) (t : Bool) → class found ≡ t → p + f t ≡ p + f (class (at (drop p text) 0))
-    first_is f t h = ap (λ b. p + f b) (sym h ∙ ap class (e ∙ sym first_behind))
-
-    pub taken_in_text : class 0 ≡ false → class found ≡ true → p < length text
-    taken_in_text none h =
-        in_text (λ z. false≢true (sym none ∙ ap class (sym (e ∙ z)) ∙ h))
+  pub taken_in_text : (class : ℕ → Bool) → class 0 ≡ false → class (at text p) ≡ true → p < length text
+  taken_in_text class none h = in_text (λ z. false≢true (sym none ∙ ap class (sym z) ∙ h))

@@ -3,25 +3,17 @@
 use mathlib.Core.Path.{◌≡◌, refl, sym, ap, subst, ◌∙◌}
 use mathlib.Core.Bool.{Bool, cond, false, true, not, ◌&&◌, ◌||◌}
 use mathlib.Core.List.{List}
-use Prim.Native.Nat.{ℕ, zero, suc, ◌≤◌, ◌+◌}
-use native.Mathlib.Nat.{add-zero, zero-add}
+use Prim.Native.Nat.{ℕ, zero, suc, ◌≤◌, ◌<◌, ◌+◌}
 use native.Mathlib.Omega.{arith}
-use borrow.Author.Tests.{eq-eqb, leb-true, le-ltb, ne_eqb}
-use lib.Dec.{T, eqb, leb→le, eqb-suc-zero, leb, ltb}
-use lib.ListN.{drop}
-use Rattle.rules_json.specs.Reader.{
-  at,
-  char_size,
-  escape_size,
-  fails,
-  goes_on,
-  last,
-  string_size,
-  string_step,
-  utf8_size,
-}
+use borrow.Author.Tests.{leb-true, le-leb, le-ltb, lt-ltb, ne_eqb}
+use lib.Dec.{T, eqb, eqb-suc-zero, leb, ltb}
+use lib.ListN.{drop, length}
+use Rattle.rules_json.specs.Reader.{at, char_size, fails, goes_on, last, string_size, string_step, utf8_size}
 use Rattle.json_reader.proofs.Behind.{here, not_here}
-use Rattle.json_reader.proofs.Ending.{ending, ending_fails, ending_last, ending_on, whole_ending}
+use Rattle.json_reader.proofs.Ending.{ending, ending_fails, ending_last, ending_on, ending_over, whole_ending}
+use Rattle.json_reader.proofs.Read.{none_read, past_none, some_read}
+use Rattle.json_reader.specs.Places.{past}
+use Rattle.std.specs.Prelude.{None, Option, Some}
 use Rattle.json_reader.proofs.Places.{first_behind}
 use Rattle.json_reader.proofs.Turning.{Grows, Turning}
 
@@ -59,40 +51,54 @@ plain_step s h =
     plain_chosen (leb 0x20 b) (ltb b 0x80) (eqb b 0x22) (eqb b 0x5C) (ltb b 0x20) _ _ h
     (λ e. le-ltb b 0x20 (leb-true 0x20 b e))
 
-small_either : (t : Bool) (x y : ℕ) → x ≤ 6 → y ≤ 6 → cond t x y ≤ 6
-small_either true x y h l = h
-small_either false x y h l = l
-
-pub char_small : (s : List ℕ) → char_size s ≤ 6
-unfolding char_size escape_size utf8_size
-char_small s = search (small_either, leb→le) depth 9
-
-pub no_string : (text : List ℕ) (place : ℕ) → (at text place ≡ 0x22 → ⊥) → place ≡ place + string_size (drop place text)
+pub no_string : (text : List ℕ) (place : ℕ) → (at text place ≡ 0x22 → ⊥)
+    → past place (string_size (drop place text)) ≡ None
 unfolding string_size
-no_string text place h = rw (not_here text place 0x22 h, add-zero place)
+no_string text place h = past_none place (rw (not_here text place 0x22 h) refl)
 
 module _ (text : List ℕ) where
-  -- where the characters from a place on end: 0 where they do not
-  abbrev pub string_end : ℕ → ℕ
-  string_end place = ending string_step text 0 place
+  -- where the characters from a place on end
+  unfoldable pub string_end : ℕ → Option ℕ
+  string_end place = ending string_step text place
 
-  pub string_begins : at text 0 ≡ 0x22 → string_end 1 ≡ string_size text
-  unfolding string_size
-  string_begins h =
-      whole_ending turning text 0 1 (string_size text) (rw (eq-eqb (at text 0) 0x22 h)) ∙ zero-add (string_size text)
+  pub string_begins : (place : ℕ) → at text place ≡ 0x22
+      → string_end (place + 1) ≡ past place (string_size (drop place text))
+  unfolding string_end string_size
+  string_begins place h =
+      whole_ending turning text place 1 (string_size (drop place text)) (rw (here text place 0x22 h))
 
   module _ (place : ℕ) where
-    pub string_runs : is_plain (at text place) ≡ true → string_end place ≡ string_end (place + 1)
-    string_runs h =
-        ending_on turning text 0 place 1 (plain_step (drop place text) (ap is_plain (first_behind text place) ∙ h))
+    pub string_over : length text ≤ place → string_end place ≡ None
+    unfolding string_end
+    string_over h = ending_over turning text place h
 
-    pub string_closes : at text place ≡ 0x22 → string_end place ≡ place + 1
-    string_closes h = ending_last turning text 0 place 1 (omega arith) (rw (here text place 0x22 h))
+    pub string_runs : 0x20 ≤ at text place → at text place < 0x80 → (at text place ≡ 0x22 → ⊥)
+        → (at text place ≡ 0x5C → ⊥) → string_end place ≡ string_end (place + 1)
+    unfolding string_end
+    string_runs low high quote slash =
+        let plain : is_plain (at text place) ≡ true =
+        rw (le-leb 0x20 (at text place) low, lt-ltb (at text place) 0x80 high)
+        (rw (ne_eqb (at text place) 0x22 quote, ne_eqb (at text place) 0x5C slash) refl) in
+        ending_on turning text place 1 (plain_step (drop place text) (ap is_plain (first_behind text place) ∙ plain))
 
-    module _ (size : ℕ) (h : at text place ≡ 0x22 → ⊥) (p : size ≡ char_size (drop place text)) where
-      pub string_breaks : size ≡ 0 → string_end place ≡ 0
-      string_breaks e = ending_fails turning text 0 place (rw (not_here text place 0x22 h, ← p, e))
+    pub string_closes : at text place ≡ 0x22 → string_end place ≡ Some (place + 1)
+    unfolding string_end
+    string_closes h = ending_last turning text place 1 (omega arith) (rw (here text place 0x22 h))
 
-      pub string_goes_on : (size ≡ 0 → ⊥) → string_end place ≡ string_end (place + size)
-      string_goes_on some =
-          ending_on turning text 0 place size (rw (not_here text place 0x22 h, ← p, ne_eqb size 0 some))
+    module _ (h : at text place ≡ 0x22 → ⊥) where
+      pub string_breaks : None ≡ past place (char_size (drop place text)) → string_end place ≡ None
+      unfolding string_end
+      string_breaks e =
+          let none = none_read place (char_size (drop place text)) e in
+          ending_fails turning text place (rw (not_here text place 0x22 h, none))
+
+      pub string_goes_on : (next : ℕ) → Some next ≡ past place (char_size (drop place text))
+          → string_end place ≡ string_end next
+      unfolding string_end
+      string_goes_on next e =
+          let (size, some) = some_read place (char_size (drop place text)) next e in
+          ending_on turning text place (char_size (drop place text))
+          (rw (not_here text place 0x22 h, ne_eqb (char_size (drop place text)) 0 some))
+          ∙ ap (ending string_step text) (sym size)
+
+pub ruleset quotations = (string_begins, string_over, string_runs, string_closes, string_breaks, string_goes_on)

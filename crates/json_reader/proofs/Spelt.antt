@@ -1,39 +1,62 @@
--- A word, octet by octet.
+-- A word, octet by octet, as the library finds it at the head of a text.
 -- Assumes nothing.
-use Prim.Native.Nat.{ℕ, suc, ◌+◌, ◌≤◌, ◌<◌}
-use mathlib.Core.Bool.{Bool, cond, ◌&&◌}
-use mathlib.Core.List.{List}
-use mathlib.Core.Path.{◌≡◌, ap, sym, ◌∙◌}
-use native.Mathlib.Numerals.{add-one}
+use Prim.Native.Nat.{ℕ, zero, suc, ◌+◌, ◌-◌, ◌≤◌}
+use mathlib.Core.Bool.{Bool, false, true, cond, ◌&&◌}
+use mathlib.Core.List.{List, [], ◌∷◌}
+use mathlib.Core.Path.{◌≡◌, ap, refl, sym, ◌∙◌}
 use native.Mathlib.Omega.{arith}
-use borrow.Author.Tests.{eq-eqb, ne_eqb}
-use lib.Dec.{eqb}
-use lib.ListN.{drop, drop_of_length-le, get_or, length}
+use borrow.Author.Tests.{eq-eqb, eqb-true, ltb-false, ltb-true, ne_eqb}
+use lib.Dec.{eqb, ltb}
+use lib.ListN.{drop, drop_of_length-le, get_or-eq_default, length, take}
+use lib.Pointwise.{pointwise}
 use lib.Seq.{drop-cons}
+use Rattle.std.specs.Bool.{then_some}
+use Rattle.std.specs.List.{list_all, starts_with}
+use Rattle.json_reader.proofs.Behind.{part_behind}
+use Rattle.json_reader.proofs.Cases.{both, by_test}
+use Rattle.json_reader.proofs.Read.{past_if}
+use Rattle.json_reader.specs.Places.{past}
 use Rattle.rules_json.specs.Reader.{at, spells, word_size}
 
-module _ (head word : List ℕ) where
-  -- whether what is left of the word stands there
-  abbrev pub left : ℕ → Bool
-  left k = spells (drop k word) k head
+turned : (a b : ℕ) → eqb a b ≡ eqb b a
+turned a b =
+    by_test (eqb b a) (λ h. eq-eqb a b (sym (eqb-true b a h)) ∙ sym h)
+    (λ h. ne_eqb a b (λ e. absurd (by_false (sym (eq-eqb b a (sym e)) ∙ h))) ∙ sym h)
+  where
+    by_false : true ≡ false → ⊥
+    by_false e = absurd (cc)
 
-  sized : {t : Bool} → spells word 0 head ≡ t → cond t (length word) 0 ≡ word_size word head
-  sized e = ap (λ (t : Bool). cond t (length word) 0) (sym e)
+abbrev pub no_zero : List ℕ → Bool
+no_zero s = list_all (ltb 0) s
 
-  module _ (place : ℕ) (inv : spells word 0 head ≡ left place) where
-    pub whole_word : place ≤ length word → length word ≤ place → place ≡ word_size word head
-    whole_word h k =
-        let e : place ≡ length word = omega arith in
-        e ∙ sized (inv ∙ ap (λ w. spells w place head) (drop_of_length-le word k))
+spelt : (word s : List ℕ) (place : ℕ) → no_zero word ≡ true
+    → pointwise eqb word (take (length word) (drop place s)) ≡ spells word place s
+spelt [] s place h = refl
+spelt (b ∷ word) s place h =
+    let (some, more) = both (ltb 0 b) (no_zero word) h in
+    by_test (ltb place (length s))
+    (λ l. ap (λ t. pointwise eqb (b ∷ word) (take (suc (length word)) t)) (drop-cons s place 0 (ltb-true _ _ l))
+    ∙ (λ i. turned b (at s place) i && spelt word s (suc place) more i))
+    (λ l. ap (λ t. pointwise eqb (b ∷ word) (take (suc (length word)) t)) (drop_of_length-le s (ltb-false _ _ l))
+    ∙ sym (ap (λ t. t && spells word (suc place) s)
+    (ne_eqb (at s place) b (λ e. absurd (omega (
+      arith,
+      e,
+      get_or-eq_default s 0 (ltb-false _ _ l),
+      ltb-true 0 b
+          some,
+    ))))))
 
-    module _ (h : place < length word) (found : ℕ) (is : found ≡ at head place) where
-      next : {t : Bool} → eqb found (get_or word place 0) ≡ t → spells word 0 head ≡ t && left (suc place)
-      next e =
-          inv ∙ ap (λ w. spells w place head) (drop-cons word place 0 h)
-          ∙ ap (λ t. t && left (suc place)) (ap (λ n. eqb n (get_or word place 0)) (sym is) ∙ e)
-
-      pub other_word_lem : (found ≡ get_or word place 0 → ⊥) → 0 ≡ word_size word head
-      other_word_lem n = sized (next (ne_eqb _ _ n))
-
-      pub next_octet : found ≡ get_or word place 0 → spells word 0 head ≡ left (place + 1)
-      next_octet e = rw add-one (next (eq-eqb _ _ e))
+-- past a word where it stands
+pub word_past : (word text : List ℕ) (at : ℕ) → no_zero word ≡ true → 1 ≤ length word
+    → past at (word_size word (drop at text))
+    ≡ then_some (starts_with eqb (take (length text - at) (drop at text)) word) (at + length word)
+word_past word text at h l =
+    by_length (length word) l
+    ∙ ap (λ t. then_some t (at + length word)) (sym (spelt word (drop at text) 0 h))
+    ∙ ap (λ t. then_some (starts_with eqb t word) (at + length word)) (sym (part_behind text at))
+  where
+    by_length : (n : ℕ) → 1 ≤ n → past at (cond (spells word 0 (drop at text)) n 0)
+        ≡ then_some (spells word 0 (drop at text)) (at + n)
+    by_length zero k = absurd (omega arith)
+    by_length (suc n) k = past_if at n (spells word 0 (drop at text))

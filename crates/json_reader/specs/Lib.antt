@@ -1,2 +1,2 @@
--- What stands behind blanks
-pub mod Blanks
+-- Past what was read, and what stands there
+pub mod Places

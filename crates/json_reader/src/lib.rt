@@ -1,6 +1,6 @@
 // RFC 8259: readers of a text in UTF-8. Those of blanks, names and values are given a place in the
-// text and return the place past what they read there, or the same place where there is none; octet
-// tells what stands at one. Nothing is asked of the place, and no tree is built.
+// text and return the place past what they read there, if they read something; octet tells what
+// stands at one. Nothing is asked of the place, and no tree is built.
 // What there is to read is told by the crate rules_json.
 #![tactic(auto)]
 

@@ -1,6 +1,6 @@
 // Octets one by one, and runs of them.
 ghost use Rattle.std.specs.Prelude.{◌≡◌, ◌+◌, drop};
-ghost use Rattle.json_reader.specs.Blanks.{PastBlanks};
+ghost use Rattle.json_reader.specs.Places.{next_from, past};
 ghost use Rattle.rules_json.specs.Reader.{at, blanks as blanks_at_head, digits as digits_at_head};
 
 // An octet and its place.
@@ -14,48 +14,40 @@ pub(crate) struct Next {
 pub fn octet(text: &[u8], place: usize) -> u8
     ensures { result ≡ at text.now place }
 {
-    if place < text.len() { text[place] } else { 0 }
+    text.get(place).copied().unwrap_or(0)
 }
 
 // Past the blanks at a place.
 pub fn blanks(text: &[u8], place: usize) -> usize
     ensures { result ≡ place + blanks_at_head (drop place text.now) }
 {
-    let next = past_blanks(text, place);
-    next.place
+    past_blanks(text, place).place
 }
 
 // The same, with the octet that stands there: 0 at the end of the text.
 pub(crate) fn past_blanks(text: &[u8], place: usize) -> Next
-    ensures { PastBlanks text.now place result }
+    ensures { result ≡ next_from text.now place }
 {
-    let mut past = place;
-    while past < text.len() {
+    for past in place..text.len() {
         let octet = text[past];
-        let blank = (octet == b' ') | (octet == b'\t') | (octet == b'\n') | (octet == b'\r');
-        if !blank {
+        if !matches!(octet, b' ' | b'\t' | b'\n' | b'\r') {
             return Next { place: past, octet };
         }
-        past = past + 1;
     }
     Next {
-        place: past,
+        place: place.max(text.len()),
         octet: 0,
     }
 }
 
-// Past the digits at a place.
-pub(crate) fn digits(text: &[u8], place: usize) -> usize
-    ensures { result ≡ place + digits_at_head (drop place text.now) }
+// Past the digits at a place. (By places: an iterator that skips to the place takes each step to it.)
+pub(crate) fn digits(text: &[u8], place: usize) -> Option<usize>
+    ensures { result ≡ past place (digits_at_head (drop place text.now)) }
 {
-    let mut past = place;
-    while past < text.len() {
-        let found = text[past];
-        let digit = (b'0' <= found) & (found <= b'9');
-        if !digit {
-            return past;
+    for end in place..text.len() {
+        if !text[end].is_ascii_digit() {
+            return (end != place).then_some(end);
         }
-        past = past + 1;
     }
-    past
+    (place < text.len()).then_some(text.len())
 }

@@ -4,22 +4,22 @@
 
 use std::io;
 use std::process::ExitCode;
+use verb::Status;
 
 fn main(rt: HostRuntime) -> ExitCode {
     // One byte more than a register has: more is refused, and nobody needs the rest.
-    let mut input = [0u8; 65537];
-    let length = verb::read(&rt, &mut input);
+    let mut room = [0u8; 65537];
+    let input = verb::read(&rt, &mut room);
     if verb::input_failed(&rt) {
         return ExitCode::SUCCESS;
     }
-    verb::ended(&rt, printed(&rt, &input[..length]))
+    verb::ended(&rt, printed(&rt, input))
 }
 
-fn printed(rt: &impl Print, input: &[u8]) -> io::Result<u8> {
+fn printed(rt: &impl Print, input: &[u8]) -> io::Result<Status> {
     let mut text = [0u8; 188397];
     let length = sheet::print(input, &mut text);
     verb::write(rt, &text[..length])?;
     // A sheet begins with its title, `entry ..`; the one line of a register that cannot be read, `refused ..`.
-    let refused = text[0] == b'r';
-    Ok(if refused { verb::REFUSED } else { verb::DONE })
+    Ok(Status::refused_if(text[0] == b'r'))
 }

@@ -1,11 +1,6 @@
 pub mod Pieces
-pub mod Running
-pub mod Matching
-pub mod Naming
 pub mod Worded
-pub mod Spanned
+pub mod Counted
+pub mod Naming
 pub mod Numbered
-pub mod Mosts
-pub mod Filled
-pub mod SixFaults
-pub mod Spoken
+pub mod WordFaults

@@ -1,93 +1,80 @@
 -- A word as a number: up to which most it is one, and what is wrong with it where another is expected.
 -- Assumes nothing.
-use Prim.Native.Nat.{ℕ, ◌-◌, ◌≤◌, ◌<◌}
+use Prim.Native.Nat.{ℕ, ◌<◌}
 use native.Mathlib.Omega.{arith}
-use mathlib.Core.Bool.{Bool, cond, false, not, true, ◌&&◌}
+use mathlib.Core.Bool.{Bool, cond, false, not, true}
 use mathlib.Core.List.{List, [], ◌∷◌}
 use mathlib.Core.Path.{◌≡◌, ap, refl, sym, ◌∙◌}
-use borrow.Author.Tests.{leb-true, lt-leb, ne_eqb}
+use borrow.Author.Tests.{le-leb, lt-leb}
 use lib.Dec.{eqb, leb}
-use lib.ListN.{drop, get_or, take}
+use lib.ListN.{get_or}
 use Rattle.digits.proofs.Counted.{ours_up_to}
-use Rattle.plan_lines.specs.Behind.{first_number, number_fault_of, rest}
-use Rattle.plan_lines.specs.Spans.{NextWord}
-use Rattle.rules.specs.Screen.{is_empty, is_there, number_after, or_else, our_number, provided}
-use Rattle.rules.specs.Words.{any, ◌if◌then◌, ◌▷◌}
-use Rattle.rules_json.specs.Grammar.{digit}
-use Rattle.rules_plan.specs.Lines.{number_fault, words_fault}
-use Rattle.rules_plan.specs.Words.{words}
+use Rattle.plan_lines.specs.Behind.{most_number}
+use Rattle.plan_lines.specs.declared.numbers.Most.{Most}
+use Rattle.rules.specs.Answered.{given}
+use Rattle.rules.specs.Screen.{and_then, is_there, or_else, our_number, provided}
+use Rattle.rules.specs.Words.{◌if◌then◌}
+use Rattle.rules_plan.specs.Lines.{number_fault}
+use Rattle.std.proofs.Common.{Bor, Err, None, Ok, Option, Result, Some}
+use Rattle.std.proofs.Math.Option as Math
+use Rattle.std.proofs.Math.Option.{none, some}
+use Rattle.std.specs.Option.{MatchOption, is_some, unwrap_or}
+use Rattle.std.specs.Result.{OkIff, result_ok}
 
-abbrev found : List ℕ → ℕ
-found word = or_else 65536 (our_number 65535 word)
+-- ---- a number that fits a byte
 
--- it is never as great as what stands for no word
-found_least : (word : List ℕ) → found word < 65537
-unfolding our_number
-found_least word =
-    by_tests (not (is_empty word) && not (any (λ b. not (digit b)) word)) (number_after 0 word)
-    (leb (number_after 0 word) 65535) refl
-  where
-    by_tests : (good : Bool) (n : ℕ) (t : Bool) → leb n 65535 ≡ t
-        → or_else 65536 (provided (good && leb n 65535) n) < 65537
-    by_tests false n t e = omega arith
-    by_tests true n true e = rw e (omega (arith, leb-true n 65535 e))
-    by_tests true n false e = rw e (omega arith)
+up_to_byte : (word : List ℕ) (o : Math.Option ℕ) → o ≡ our_number 65535 word
+    → and_then o (λ n. provided (leb n 255) n) ≡ our_number 255 word
+up_to_byte word o e = ap (λ o. and_then o (λ n. provided (leb n 255) n)) e ∙ sym (ours_up_to 255 word (omega arith))
 
--- ---- the number that is read
+pub no_byte : (r : Option ℕ) (word : List ℕ) → r ≡ None → none ≡ our_number 65535 word → given r ≡ our_number 255 word
+no_byte r word z e = ap given z ∙ up_to_byte word none e
 
-by_provided : (t : Bool) (n : ℕ) → cond t n 0 ≡ or_else 0 (provided t n)
-by_provided true n = refl
-by_provided false n = refl
-
-pub first_up_to : (most : ℕ) → most ≤ 65535 → (words : List (List ℕ))
-    → cond (leb (first_number words) most) (first_number words) 0 ≡ or_else 0 (our_number most (get_or words 0 []))
-unfolding first_number our_number
-first_up_to most h [] = ap (λ t. cond t 65537 0) (lt-leb 65537 most (omega arith))
-first_up_to most h (word ∷ words) =
-    by_provided (leb (found word) most) (found word) ∙ ap (or_else 0) (sym (ours_up_to most word h))
+pub byte_of : {E : Type 0} (o : Option ℕ) (r : Result ℕ E) (n : ℕ) (word : List ℕ) → o ≡ result_ok r
+    → OkIff r (n < 256) n → some n ≡ our_number 65535 word → given o ≡ our_number 255 word
+byte_of o (Ok m) n word z h e =
+    ap given z ∙ ap some h.1 ∙ sym (ap (λ t. provided t n) (le-leb n 255 (omega arith))) ∙ up_to_byte word (some n) e
+byte_of o (Err f) n word z h e =
+    ap given z ∙ sym (ap (λ t. provided t n) (lt-leb n 255 (omega arith))) ∙ up_to_byte word (some n) e
 
 -- ---- what is wrong with it
 
-by_there : (t : Bool) (n x : ℕ) → (x if not (is_there (provided t n)) then 0) ≡ cond t 0 x
-unfolding ◌if◌then◌
-by_there true n x = refl
-by_there false n x = refl
+there_is : {A : Type 0} (r : Option A) → is_there (given r) ≡ is_some r
+there_is None = refl
+there_is (Some x) = refl
 
-module _ (most : ℕ) (some : most ≡ 0 → ⊥) (bound : most ≤ 65535) where
-  one_fault : (word : List ℕ) → number_fault most word ≡ number_fault_of most (found word)
-  unfolding number_fault_of
-  one_fault word =
-      ap (λ n. cond (eqb most 255) 4 5 if not (is_there n) then 0) (ours_up_to most word bound)
-      ∙ by_there (leb (found word) most) (found word) (cond (eqb most 255) 4 5)
-      ∙ sym (rw (ne_eqb most 0 some, ne_eqb (found word) 65537 (λ e. omega (arith, found_least word))))
+module _ (expected most : Most) (is : most ≡ expected) (r : Option ℕ) (word : List ℕ)
+    (e : given r ≡ our_number (most_number expected) word) where
+  by_there : {t : Bool} → is_some r ≡ t
+      → cond t 0 (cond (eqb (most_number expected) 255) 4 5) ≡ number_fault (most_number most) word
+  unfolding ◌if◌then◌
+  by_there {t} f =
+      negated t (cond (eqb (most_number expected) 255) 4 5)
+      ∙ ap (λ t. cond (not t) (cond (eqb (most_number expected) 255) 4 5) 0) (sym f ∙ sym (there_is r) ∙ ap is_there e)
+      ∙ ap (λ m. number_fault (most_number m) word) (sym is)
+    where
+      negated : (t : Bool) (x : ℕ) → cond t 0 x ≡ cond (not t) x 0
+      negated true x = refl
+      negated false x = refl
 
-  pub next_fault : (mosts : List ℕ) (words : List (List ℕ))
-      → words_fault (most ∷ mosts) words ≡ number_fault_of most (first_number words) ▷ words_fault mosts (rest words)
-  unfolding words_fault first_number number_fault_of ◌▷◌
-  next_fault mosts [] = rw (ne_eqb most 0 some)
-  next_fault mosts (word ∷ words) = ap (λ n. n ▷ words_fault mosts words) (one_fault word)
+  pub wrong : is_some r ≡ false → cond (eqb (most_number expected) 255) 4 5 ≡ number_fault (most_number most) word
+  wrong = by_there
 
--- where no number is expected
-pub no_more : (words : List (List ℕ)) → words_fault [] words ≡ number_fault_of 0 (first_number words)
-unfolding words_fault first_number number_fault_of
-no_more [] = refl
-no_more (word ∷ words) = sym (ap (λ t. cond t 0 3) (ne_eqb (found word) 65537 (λ e. omega (arith, found_least word))))
+  pub right : is_some r ≡ true → 0 ≡ number_fault (most_number most) word
+  right = by_there
 
--- the first that is wrong with two groups, each worked out
-pub or_else_lem : {fault first first' next next' : ℕ} → fault ≡ first ▷ next → first ≡ first' → next ≡ next'
-    → fault ≡ first' ▷ next'
-or_else_lem e f g = e ∙ (λ i. f i ▷ g i)
+-- ---- the next word's number
 
--- ---- the next word's
-
-module _ (line : List ℕ) (place start past : ℕ) (next : NextWord line place start past) where
-  pub none_from : start ≡ past
-      → (65537 ≡ first_number (words (drop place line))) × (words (drop past line) ≡ rest (words (drop place line)))
-  unfolding first_number
-  none_from e = (sym (ap first_number (next.none e)), next.ended e ∙ sym (ap rest (next.none e)))
-
-  pub number_from : (start ≡ past → ⊥)
-      → (found (take (past - start) (drop start line)) ≡ first_number (words (drop place line)))
-      × (words (drop past line) ≡ rest (words (drop place line)))
-  unfolding first_number
-  number_from h = (sym (ap first_number (next.first h)), sym (ap rest (next.first h)))
+pub next_value : (most : ℕ) (next : Option (Bor (List ℕ))) (r : Option ℕ) (words behind : List (List ℕ))
+    → MatchOption next ((words ≡ []) × (behind ≡ [])) (λ word. words ≡ word.now ∷ behind)
+    → MatchOption next (r ≡ None) (λ word. given r ≡ our_number most word.now)
+    → unwrap_or r 0 ≡ or_else 0 (our_number most (get_or words 0 []))
+unfolding our_number
+next_value most None r words behind h e =
+    ap (λ o. unwrap_or o 0) e ∙ ap (λ ws. or_else 0 (our_number most (get_or ws 0 []))) (sym h.0)
+next_value most (Some word) r words behind h e =
+    or_zero r ∙ ap (or_else 0) e ∙ ap (λ ws. or_else 0 (our_number most (get_or ws 0 []))) (sym h)
+  where
+    or_zero : (r : Option ℕ) → unwrap_or r 0 ≡ or_else 0 (given r)
+    or_zero None = refl
+    or_zero (Some n) = refl

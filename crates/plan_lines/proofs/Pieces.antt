@@ -1,23 +1,24 @@
 -- Pieces one after the other: the first ends where the first parting byte stands, and the others begin behind it.
 -- Assumes nothing.
-use Prim.Native.Nat.{ℕ, suc, ◌≤◌}
+use Prim.Native.Nat.{ℕ, suc}
 use mathlib.Core.Bool.{Bool, cond, false, not, true}
 use mathlib.Core.List.{List, [], ◌∷◌}
-use mathlib.Core.Path.{◌≡◌, ap, refl}
+use mathlib.Core.Path.{◌≡◌, ap, refl, sym, ◌∙◌}
 use native.Mathlib.Omega.{arith}
-use lib.ListN.{drop, length, take}
-use Rattle.plan_lines.specs.Leading.{leading}
-use Rattle.rules_plan.specs.Words.{onto, pieces}
+use lib.ListN.{drop, get_or, length, take}
+use Rattle.plan_lines.specs.Leading.{not_hash}
+use Rattle.rules_plan.specs.Words.{hash, onto, pieces, uncommented}
+use Rattle.std.specs.List.{prefix_len}
 
--- no more bytes come first than there are
-pub leading_most : (p : ℕ → Bool) (l : List ℕ) → leading p l ≤ length l
+-- How many bytes come first that pass a test: std's count, by recursion with a successor.
+unfoldable pub leading : (ℕ → Bool) → List ℕ → ℕ
+leading p [] = 0
+leading p (b ∷ text) = cond (p b) (suc (leading p text)) 0
+
+pub leading_is : (p : ℕ → Bool) (l : List ℕ) → prefix_len p l ≡ leading p l
 unfolding leading
-leading_most p [] = omega arith
-leading_most p (b ∷ l) = by_test (p b) (leading_most p l)
-  where
-    by_test : (t : Bool) → leading p l ≤ length l → cond t (suc (leading p l)) 0 ≤ suc (length l)
-    by_test true h = omega arith
-    by_test false h = omega arith
+leading_is p [] = refl
+leading_is p (b ∷ l) = ap (λ n. cond (p b) n 0) (omega (arith, leading_is p l))
 
 module _ (parts : ℕ → Bool) where
   abbrev pub before_part : List ℕ → ℕ
@@ -39,3 +40,11 @@ module _ (parts : ℕ → Bool) where
       by_test true l g = refl
       by_test false [] g = refl
       by_test false (x ∷ xs) g = ap (onto b) (g (λ e. omega arith))
+
+-- a line up to its comment
+pub up_to_comment : (line : List ℕ) → take (prefix_len not_hash line) line ≡ uncommented line
+unfolding leading uncommented pieces
+up_to_comment [] = refl
+up_to_comment (b ∷ line) =
+    ap (λ n. take n (b ∷ line)) (leading_is not_hash (b ∷ line))
+    ∙ sym (ap (λ all. get_or all 0 []) (first_piece hash (b ∷ line) (λ z. omega arith)))

@@ -4,10 +4,11 @@ use Prim.Native.Nat.{ℕ, suc}
 use native.Mathlib.Omega.{arith}
 use mathlib.Core.Bool.{Bool, cond, false, not, true}
 use mathlib.Core.List.{List, [], ◌∷◌}
-use mathlib.Core.Path.{◌≡◌, ap, refl, subst, sym, ◌∙◌}
-use lib.ListN.{drop, take}
-use Rattle.plan_lines.specs.Leading.{leading, not_blank}
-use Rattle.plan_lines.proofs.Pieces.{first_piece}
+use mathlib.Core.Path.{◌≡◌, ap, ap₂, refl, subst, sym, ◌∙◌}
+use lib.ListN.{drop, length, take}
+use Rattle.std.specs.List.{prefix_len}
+use Rattle.plan_lines.specs.Leading.{not_blank}
+use Rattle.plan_lines.proofs.Pieces.{first_piece, leading, leading_is}
 use Rattle.rules.specs.Screen.{is_empty}
 use Rattle.rules_plan.specs.Words.{blank, filtered, pieces, words}
 
@@ -76,20 +77,34 @@ module _ (p : ℕ → Bool) where
 
 -- ---- the words of a line
 
-abbrev pub past_blanks : List ℕ → List ℕ
-past_blanks l = drop (leading blank l) l
+module _ (line : List ℕ) where
+  abbrev past_blanks : List ℕ
+  past_blanks = drop (leading blank line) line
 
-pub words_past_blanks : (l : List ℕ) → words (past_blanks l) ≡ words l
-unfolding words
-words_past_blanks l = blanks_aside blank l
+  module _ (blanks size : ℕ) (b : blanks ≡ prefix_len blank line)
+      (s : size ≡ prefix_len not_blank (drop blanks line)) where
+    abbrev spoken : List ℕ
+    spoken = drop blanks line
 
-pub words_none : (l : List ℕ) → leading not_blank (past_blanks l) ≡ 0 → words l ≡ []
-unfolding words
-words_none l e = no_word blank l e
+    spoken_is : spoken ≡ past_blanks
+    spoken_is = ap (λ n. drop n line) (b ∙ leading_is blank line)
 
-pub words_first : (l : List ℕ) → (leading not_blank (past_blanks l) ≡ 0 → ⊥)
-    → words l
-    ≡ take (leading not_blank (past_blanks l)) (past_blanks l)
-    ∷ words (drop (leading not_blank (past_blanks l)) (past_blanks l))
-unfolding words
-words_first l h = first_word blank l h
+    size_is : size ≡ leading not_blank past_blanks
+    size_is = s ∙ leading_is not_blank spoken ∙ ap (leading not_blank) spoken_is
+
+    -- the first word and what is behind it, or neither
+    module _ (word behind : List ℕ) (w : word ≡ take size spoken) (h : behind ≡ drop size spoken)
+        (bound : length word ≡ size) where
+      pub words_none : length word ≡ 0 → (words line ≡ []) × (words behind ≡ [])
+      unfolding words
+      words_none e =
+          let none = no_word blank line (sym size_is ∙ sym bound ∙ e) in (
+            none,
+            ap words (h ∙ ap (λ n. drop n spoken) (sym bound ∙ e) ∙ spoken_is) ∙ blanks_aside blank line ∙ none,
+          )
+
+      pub words_first : (length word ≡ 0 → ⊥) → words line ≡ word ∷ words behind
+      unfolding words
+      words_first z =
+          first_word blank line (λ e. z (bound ∙ size_is ∙ e))
+          ∙ sym (ap₂ (λ a b. a ∷ words b) (w ∙ ap₂ take size_is spoken_is) (h ∙ ap₂ drop size_is spoken_is))

@@ -1,10 +1,6 @@
--- How many bytes come first that pass a test. (Not for belief: what pieces are is told by rules_plan.)
-use Rattle.std.specs.Prelude.{ℕ, suc, Bool, cond, not, List, [], ◌∷◌}
+-- Tests of bytes that come first. (Not for belief: what pieces are is told by rules_plan.)
+use Rattle.std.specs.Prelude.{ℕ, Bool, not}
 use Rattle.rules_plan.specs.Words.{blank, hash, line_feed}
-
-unfoldable pub leading : (ℕ → Bool) → List ℕ → ℕ
-leading p [] = 0
-leading p (b ∷ text) = cond (p b) (suc (leading p text)) 0
 
 abbrev pub not_line_feed : ℕ → Bool
 not_line_feed b = not (line_feed b)
@@ -14,7 +10,3 @@ not_hash b = not (hash b)
 
 abbrev pub not_blank : ℕ → Bool
 not_blank b = not (blank b)
-
--- a test, or that it fails
-abbrev pub is_or_not : Bool → Bool → Bool
-is_or_not is t = cond is t (not t)

@@ -1,8 +1,6 @@
--- How many bytes come first that pass a test
+-- Tests of bytes that come first
 pub mod Leading
--- Where the next word stands
-pub mod Spans
--- The place of a word among names
+-- The number of a word among names
 pub mod Names
 -- The words behind a name, one after the other
 pub mod Behind

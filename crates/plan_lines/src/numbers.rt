@@ -1,120 +1,120 @@
 // The numbers behind a name: how many there are to be, how great they may be, and what they fill.
-ghost use Rattle.std.specs.Prelude.{◌≡◌, cond, ◌≤◌, drop, length};
-ghost use Rattle.plan_lines.specs.Behind.{as_byte, as_sixteen_bits, first_number, number_fault_of, rest, six_mosts};
-ghost use Rattle.rules_plan.specs.Lines.{mosts};
-ghost use Rattle.rules_plan.specs.Words.{words};
+ghost use Rattle.std.specs.Prelude.{◌≡◌, map};
+ghost use Rattle.plan_lines.specs.Behind.{most_number, rest};
+ghost use Rattle.rules.specs.Answered.{given};
+ghost use Rattle.rules.specs.Screen.{our_number};
+ghost use Rattle.rules_plan.specs.Answered.{fault_of, word_number};
+ghost use Rattle.rules_plan.specs.Lines.{byte_at, mosts, number_at, number_fault, numbers_of, words_fault};
+ghost use Rattle.rules_plan.specs.Words.{words as Words·words};
 
-use crate::words::next_word;
-use rules_plan::{
-    CLOCK, FAILED, FREE, HEAD, NOT_A_BYTE, NOT_SIXTEEN_BITS, NUMBER_MISSING, OCCUPIED, REPORT,
-    RESTORED, T1, T5, TRACKS, UNDERSTOOD, WORD_TOO_MANY,
-};
+use crate::words::Words;
+use rules::Report;
+use rules_plan::{Fault, ReportWord, Setting, Word};
 
-// No number is expected.
-pub(crate) const NONE: u32 = 0;
-
-pub(crate) const BYTE: u32 = 255;
-
-pub(crate) const SIXTEEN_BITS: u32 = 65535;
-
-// Above all that digits::number_in gives: there is no word.
-const ABSENT: u32 = 65537;
-
-// A word as a number, and the place past it.
+// The most that a number behind a name may be.
 #[derive(Clone, Copy)]
-pub(crate) struct Number {
-    pub(crate) number: u32,
-    pub(crate) past: usize,
+enum Most {
+    Byte,
+    SixteenBits,
 }
 
-// The first word from a place on.
-pub(crate) fn number_from(line: &[u8], place: usize) -> Number
-    requires { place ≤ length line.now }
-    ensures number_value { result.number ≡ first_number (words (drop place line.now)) }
-    ensures line_value { words (drop result.past line.now) ≡ rest (words (drop place line.now)) }
-    ensures past_in_bounds { result.past ≤ length line.now }
+// What is wrong with the words behind a name, from left to right.
+pub(crate) fn understood(word: Word, mut behind: Words<'_>) -> Result<(), Fault>
+    ensures { fault_of result ≡ words_fault (mosts (word_number word)) (Words·words behind.entry.line.now) }
 {
-    let found = next_word(line, place);
-    let start = found.start;
-    let past = found.past;
-    if start == past {
-        return Number {
-            number: ABSENT,
-            past,
+    for most in mosts_of(word) {
+        let Some(number) = behind.next() else {
+            return Err(Fault::NumberMissing);
         };
+        within(*most, number)?;
     }
-    Number {
-        number: digits::number_in(&line[start..past]),
-        past,
-    }
-}
-
-// What is wrong with a word, where a number up to a most is expected, or none is.
-pub(crate) fn number_fault(most: u32, number: u32) -> u8
-    ensures { result ≡ number_fault_of most number }
-{
-    if most == NONE {
-        return if number == ABSENT {
-            UNDERSTOOD
-        } else {
-            WORD_TOO_MANY
-        };
-    }
-    if number == ABSENT {
-        return NUMBER_MISSING;
-    }
-    if number <= most {
-        return UNDERSTOOD;
-    }
-    if most == BYTE {
-        NOT_A_BYTE
-    } else {
-        NOT_SIXTEEN_BITS
+    match behind.next() {
+        None => Ok(()),
+        Some(_) => Err(Fault::WordTooMany),
     }
 }
 
-pub(crate) fn byte(number: u32) -> u8
-    ensures { result ≡ as_byte number }
+// The most that each number behind a name may be.
+#[tactic(auto, unfolding(rules_plan::specs::Lines::mosts))]
+fn mosts_of(word: Word) -> &'static [Most]
+    ensures { map most_number result.now ≡ mosts (word_number word) }
 {
-    if number <= BYTE { number as u8 } else { 0 }
-}
-
-pub(crate) fn sixteen_bits(number: u32) -> u16
-    ensures { result ≡ as_sixteen_bits number }
-{
-    if number <= SIXTEEN_BITS {
-        number as u16
-    } else {
-        0
+    match word {
+        Word::Setting(Setting::Tracks) => &[Most::Byte],
+        Word::Setting(_) | Word::Report(ReportWord::Clock) => &[Most::SixteenBits],
+        Word::Report(
+            ReportWord::Occupied | ReportWord::Free | ReportWord::Failed | ReportWord::Restored,
+        ) => &[Most::Byte, Most::Byte],
+        Word::Report(ReportWord::Head) => &[Most::Byte, Most::SixteenBits],
+        Word::Report(ReportWord::Report) => &[
+            Most::Byte,
+            Most::Byte,
+            Most::Byte,
+            Most::Byte,
+            Most::SixteenBits,
+        ],
+        Word::Report(ReportWord::Normalise) | Word::Other => &[],
     }
 }
 
-// The most that each number behind a name may be, where one is expected there. Behind the last no
-// name has a number.
-pub(crate) fn mosts_of(name: u8) -> [u32; 6]
-    ensures { result ≡ six_mosts (mosts name) }
+// Whether a word is a number up to a most.
+fn within(most: Most, word: &[u8]) -> Result<(), Fault>
+    ensures { fault_of result ≡ number_fault (most_number most) word.now }
 {
-    let timer = (T1 <= name) & (name <= T5);
-    let placed = (name == OCCUPIED) | (name == FREE) | (name == FAILED) | (name == RESTORED);
-    let any = name == REPORT;
-    [
-        most(
-            (name == TRACKS) | placed | (name == HEAD) | any,
-            timer | (name == CLOCK),
+    match most {
+        Most::Byte if byte_in(word).is_none() => Err(Fault::NotAByte),
+        Most::SixteenBits if digits::number_in(word).is_none() => Err(Fault::NotSixteenBits),
+        _ => Ok(()),
+    }
+}
+
+#[tactic(auto, using(crate::proofs::Numbered::no_byte, crate::proofs::Numbered::byte_of))]
+fn byte_in(word: &[u8]) -> Option<u8>
+    ensures { given result ≡ our_number 255 word.now }
+{
+    u8::try_from(digits::number_in(word)?).ok()
+}
+
+// The next word as a byte, and 0 where it is none.
+fn byte(words: &mut Words<'_>) -> u8
+    ensures value { result ≡ byte_at (Words·words words.old.line.now) 0 }
+    ensures words_after { Words·words words.new.line.now ≡ rest (Words·words words.old.line.now) }
+{
+    words.next().and_then(byte_in).unwrap_or(0)
+}
+
+// The next word in sixteen bits, and 0 where it is no number.
+fn sixteen_bits(words: &mut Words<'_>) -> u16
+    ensures value { result ≡ number_at (Words·words words.old.line.now) 0 }
+    ensures words_after { Words·words words.new.line.now ≡ rest (Words·words words.old.line.now) }
+{
+    words.next().and_then(digits::number_in).unwrap_or(0)
+}
+
+// What the numbers behind a name fill: for a setting its one number, or a report of its kind. The last is of any
+// numbers, so that one can be entered that is refused.
+#[tactic(auto, unfolding(rules_plan::specs::Lines::numbers_of))]
+pub(crate) fn filled(word: Word, mut behind: Words<'_>) -> Report
+    ensures { result ≡ numbers_of (word_number word) (Words·words behind.entry.line.now) }
+{
+    let words = &mut behind;
+    match word {
+        Word::Setting(Setting::Tracks) => reports::report(0, byte(words), 0, 0, 0),
+        Word::Setting(_) => reports::report(0, 0, 0, 0, sixteen_bits(words)),
+        Word::Report(ReportWord::Occupied) => reports::occupied(byte(words), byte(words)),
+        Word::Report(ReportWord::Free) => reports::freed(byte(words), byte(words)),
+        Word::Report(ReportWord::Clock) => reports::clock(sixteen_bits(words)),
+        Word::Report(ReportWord::Failed) => reports::failed(byte(words), byte(words)),
+        Word::Report(ReportWord::Restored) => reports::restored(byte(words), byte(words)),
+        Word::Report(ReportWord::Head) => reports::condition(byte(words), sixteen_bits(words)),
+        Word::Report(ReportWord::Normalise) => reports::normalise(),
+        Word::Report(ReportWord::Report) => reports::report(
+            byte(words),
+            byte(words),
+            byte(words),
+            byte(words),
+            sixteen_bits(words),
         ),
-        most(placed | any, name == HEAD),
-        most(any, false),
-        most(any, false),
-        most(false, any),
-        NONE,
-    ]
-}
-
-fn most(byte: bool, sixteen: bool) -> u32
-    ensures { result ≡ cond byte 255 (cond sixteen 65535 0) }
-{
-    if byte {
-        return BYTE;
+        Word::Other => reports::report(0, 0, 0, 0, 0),
     }
-    if sixteen { SIXTEEN_BITS } else { NONE }
 }

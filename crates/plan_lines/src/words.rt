@@ -1,99 +1,55 @@
 // Lines and words: how far each goes.
-ghost use Rattle.std.specs.Prelude.{not, ◌≡◌, ◌≤◌, eqb, length};
-ghost use Rattle.plan_lines.specs.Leading.{is_or_not, leading, not_blank, not_hash, not_line_feed};
-ghost use Rattle.plan_lines.specs.Spans.{NextWord};
-ghost use Rattle.rules_plan.specs.Words.{blank};
+ghost use Rattle.std.specs.Prelude.{◌≡◌, ◌≤◌, length};
+ghost use Rattle.std.specs.Iterator.{YieldsFirstRef, item_count};
+ghost use Rattle.std.specs.List.{prefix_len};
+ghost use Rattle.plan_lines.specs.Leading.{not_line_feed};
+ghost use Rattle.rules_plan.specs.Words.{blank, uncommented, words};
 
 // How many bytes stand before the first line feed.
 pub fn before_line_feed(text: &[u8]) -> usize
-    ensures value { result ≡ leading not_line_feed text.now }
+    ensures value { result ≡ prefix_len not_line_feed text.now }
     ensures upper_bound { result ≤ length text.now }
 {
-    before(text, b'\n')
+    text.iter().take_while(|&&found| found != b'\n').count()
 }
 
-// How many bytes stand before the first #.
-pub(crate) fn before_comment(line: &[u8]) -> usize
-    ensures value { result ≡ leading not_hash line.now }
-    ensures upper_bound { result ≤ length line.now }
+// A line up to its comment.
+pub(crate) fn uncommented(line: &[u8]) -> &[u8]
+    ensures { result.now ≡ uncommented line.now }
 {
-    before(line, b'#')
+    let count = line.iter().take_while(|&&found| found != b'#').count();
+    &line[..count]
 }
 
-// Where a word stands.
+// The words of a line, one after the other.
 #[derive(Clone, Copy)]
-pub(crate) struct Span {
-    pub(crate) start: usize,
-    pub(crate) past: usize,
+pub(crate) struct Words<'a> {
+    pub(crate) line: &'a [u8],
 }
 
-// The next word from a place on. Where there is none, it starts where it ends.
-pub(crate) fn next_word(line: &[u8], place: usize) -> Span
-    requires { place ≤ length line.now }
-    ensures { NextWord line.now place result.start result.past }
-{
-    let start = place + blanks(&line[place..]);
-    let past = start + word(&line[start..]);
-    Span { start, past }
-}
+impl<'a> Iterator for Words<'a> {
+    type Item = &'a [u8];
 
-// How many blanks come first.
-fn blanks(text: &[u8]) -> usize
-    ensures value { result ≡ leading blank text.now }
-    ensures upper_bound { result ≤ length text.now }
-{
-    run(text, true)
-}
+    ghost next_gives = { YieldsFirstRef (λ s. words s.line.now) };
 
-// How many bytes the word has that comes first.
-fn word(text: &[u8]) -> usize
-    ensures value { result ≡ leading not_blank text.now }
-    ensures upper_bound { result ≤ length text.now }
-{
-    run(text, false)
-}
+    ghost remaining = { item_count (λ s. words s.line.now) };
 
-// How many bytes stand before the first of a kind.
-fn before(text: &[u8], stop: u8) -> usize
-    ensures value { result ≡ leading (λ b. not (eqb b stop)) text.now }
-    ensures upper_bound { result ≤ length text.now }
-{
-    let mut count: usize = 0;
-    while count < text.len() {
-        let found = text[count];
-        let stops = found == stop;
-        if stops {
-            return count;
-        }
-        count += 1;
+    fn next(&mut self) -> Option<&'a [u8]> {
+        let blanks = self
+            .line
+            .iter()
+            .take_while(|&&found| is_blank(found))
+            .count();
+        let (_, spoken) = self.line.split_at(blanks);
+        let length = spoken.iter().take_while(|&&found| !is_blank(found)).count();
+        let (word, behind) = spoken.split_at(length);
+        self.line = behind;
+        if word.is_empty() { None } else { Some(word) }
     }
-    count
-}
-
-// How many bytes come first that are blanks, where those are wanted, or else that are none.
-fn run(text: &[u8], wanted: bool) -> usize
-    ensures value { result ≡ leading (λ b. is_or_not wanted (blank b)) text.now }
-    ensures upper_bound { result ≤ length text.now }
-{
-    let mut count: usize = 0;
-    while count < text.len() {
-        let found = text[count];
-        if !agrees(is_blank(found), wanted) {
-            return count;
-        }
-        count += 1;
-    }
-    count
 }
 
 fn is_blank(found: u8) -> bool
     ensures { result ≡ blank found }
 {
-    (found == b' ') | (found == b'\t') | (found == b'\r')
-}
-
-fn agrees(found: bool, wanted: bool) -> bool
-    ensures { result ≡ is_or_not wanted found }
-{
-    if wanted { found } else { !found }
+    matches!(found, b' ' | b'\t' | b'\r')
 }

@@ -10,39 +10,42 @@ mod telling;
 
 use recorder::RegisterBytes;
 use rules::{ENTRY, HEADER, MOST};
-use rules_plan::UNDERSTOOD;
 use std::io;
 use std::process::ExitCode;
+use verb::Status;
 
 // The most bytes that a text has: 8,190 reports of 32 bytes each, comments among them. It is a limit of
 // this program, whose room is on the stack, and of no rule.
 const MOST_TEXT: usize = 262144;
 
 fn main(rt: HostRuntime) -> ExitCode {
-    let mut text = [0u8; 262145];
-    let length = verb::read(&rt, &mut text);
+    let mut room = [0u8; 262145];
+    let text = verb::read(&rt, &mut room);
     if verb::input_failed(&rt) {
         return ExitCode::SUCCESS;
     }
-    if MOST_TEXT < length {
+    if MOST_TEXT < text.len() {
         misread::too_long(&rt);
-        return verb::ended(&rt, Ok(verb::REFUSED));
+        return verb::ended(&rt, Ok(Status::Refused));
     }
-    verb::ended(&rt, recorded(&rt, &text[..length]))
+    verb::ended(&rt, recorded(&rt, text))
 }
 
-fn recorded(rt: &(impl Eprint + Print), text: &[u8]) -> io::Result<u8> {
+fn recorded(rt: &(impl Eprint + Print), text: &[u8]) -> io::Result<Status> {
     let mut register = [0u8; 65536];
     let mut rows = [0usize; 8190];
-    let outcome = recorder::record(text, &mut register, &mut rows);
-    if outcome.fault != UNDERSTOOD {
-        misread::told(rt, text, outcome.fault, outcome.line);
-        return Ok(verb::REFUSED);
+    match recorder::record(text, &mut register, &mut rows) {
+        Ok(count) => {
+            // What was entered is told once it is written.
+            written(rt, &register, count)?;
+            telling::told(rt, &register, &rows, count);
+            Ok(Status::Done)
+        }
+        Err(misread) => {
+            misread::told(rt, text, misread);
+            Ok(Status::Refused)
+        }
     }
-    // What was entered is told once it is written.
-    written(rt, &register, outcome.count)?;
-    telling::told(rt, &register, &rows, outcome.count);
-    Ok(verb::DONE)
 }
 
 // Writes exactly the filled bytes. A function of its own, since the length of an array is known by a

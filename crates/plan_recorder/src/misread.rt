@@ -1,10 +1,5 @@
 // What is wrong with a text, and on which line, which is shown.
-ghost use Rattle.std.specs.Prelude.{◌≤◌, length};
-
-use rules_plan::{
-    LATE_SETTING, NOT_A_BYTE, NOT_A_NAME, NOT_SIXTEEN_BITS, NUMBER_MISSING, SET_ALREADY,
-    SETTINGS_MISSING, SETTINGS_OUTSIDE, TEXT_ENDS, WORD_TOO_MANY,
-};
+use rules_plan::{Fault, Misread};
 
 // As much of a line as is shown.
 const SHOWN: usize = 72;
@@ -14,39 +9,34 @@ pub(crate) fn too_long(rt: &impl Eprint) {
     nothing(rt);
 }
 
-pub(crate) fn told(rt: &impl Eprint, text: &[u8], fault: u8, line: usize) {
-    if fault == TEXT_ENDS {
-        verb::tell(
+pub(crate) fn told(rt: &impl Eprint, text: &[u8], misread: Misread) {
+    match misread {
+        Misread::TextEnds => verb::tell(
             rt,
             "the text ends before all six settings (tracks, t1, t2, t3, t4, t5)\n",
-        );
-    } else {
-        verb::tell(rt, "line ");
-        verb::tell_number(rt, line);
-        what(rt, fault);
-        let from = start_of(text, line);
-        shown(rt, &text[from..]);
+        ),
+        Misread::AtLine { line, fault } => {
+            verb::tell(rt, format_args!("line {line}: {}\n", what(fault)));
+            shown(rt, line_of(text, line));
+        }
     }
     nothing(rt);
 }
 
-fn what(rt: &impl Eprint, fault: u8) {
+fn what(fault: Fault) -> &'static str {
     match fault {
-        NOT_A_NAME => verb::tell(rt, ": not a setting, and not a kind of report\n"),
-        NUMBER_MISSING => verb::tell(rt, ": a number is missing\n"),
-        WORD_TOO_MANY => verb::tell(rt, ": a word too many\n"),
-        NOT_A_BYTE => verb::tell(rt, ": not a number from 0 to 255\n"),
-        NOT_SIXTEEN_BITS => verb::tell(rt, ": not a number from 0 to 65535\n"),
-        LATE_SETTING => verb::tell(rt, ": a setting after the first report\n"),
-        SET_ALREADY => verb::tell(rt, ": set already\n"),
-        SETTINGS_MISSING => {
-            verb::tell(
-                rt,
-                ": a report before all six settings (tracks, t1, t2, t3, t4, t5)\n",
-            )
+        Fault::NotAName => "not a setting, and not a kind of report",
+        Fault::NumberMissing => "a number is missing",
+        Fault::WordTooMany => "a word too many",
+        Fault::NotAByte => "not a number from 0 to 255",
+        Fault::NotSixteenBits => "not a number from 0 to 65535",
+        Fault::LateSetting => "a setting after the first report",
+        Fault::SetAlready => "set already",
+        Fault::SettingsMissing => {
+            "a report before all six settings (tracks, t1, t2, t3, t4, t5)"
         }
-        SETTINGS_OUTSIDE => verb::tell(rt, ": with this the settings are outside their limits\n"),
-        _ => verb::tell(rt, ": more than 8190 reports\n"),
+        Fault::SettingsOutside => "with this the settings are outside their limits",
+        Fault::TooManyReports => "more than 8190 reports",
     }
 }
 
@@ -54,63 +44,25 @@ fn nothing(rt: &impl Eprint) {
     verb::tell(rt, "Nothing is recorded.\n");
 }
 
-// Where a line starts that is counted from 1; the first behind a byte order mark.
-fn start_of(text: &[u8], line: usize) -> usize
-    ensures { result ≤ length text.now }
-{
-    let mut ahead = line;
-    for at in recorder::after_mark(text)..text.len() {
-        if ahead <= 1 {
-            return at;
-        }
-        if text[at] == b'\n' {
-            ahead -= 1;
-        }
-    }
-    text.len()
+// A line that is counted from 1, the first behind a byte order mark.
+fn line_of(text: &[u8], line: usize) -> &[u8] {
+    let (_, unmarked) = text.split_at(recorder::after_mark(text));
+    let mut lines = unmarked.split(|&found| found == b'\n');
+    lines.nth(line.saturating_sub(1)).unwrap_or(&[])
 }
 
-// The first line of a text, set in. Whatever could move a terminal's cursor is shown as a question mark.
-fn shown(rt: &impl Eprint, text: &[u8]) {
+// A line, set in, without the carriage return at its end. Whatever could move a terminal's cursor is shown as a question mark.
+fn shown(rt: &impl Eprint, line: &[u8]) {
     verb::tell(rt, "    ");
-    bytes(rt, text);
+    for &found in line.strip_suffix(b"\r").unwrap_or(line).iter().take(SHOWN) {
+        verb::tell(rt, printable(found));
+    }
     verb::tell(rt, "\n");
 }
 
-fn bytes(rt: &impl Eprint, text: &[u8]) {
-    for place in 0..SHOWN {
-        if ends(text, place) {
-            return;
-        }
-        verb::tell(rt, char::from(printable(text, place)));
-    }
-}
-
-// Whether the line ends at a place: with the text, a line feed, or a carriage return before either.
-fn ends(text: &[u8], place: usize) -> bool {
-    if text.len() <= place {
-        return true;
-    }
-    if text[place] == b'\n' {
-        return true;
-    }
-    if text[place] != b'\r' {
-        return false;
-    }
-    if text.len() - place == 1 {
-        return true;
-    }
-    text[place + 1] == b'\n'
-}
-
-fn printable(text: &[u8], place: usize) -> u8 {
-    if text.len() <= place {
-        return b'?';
-    }
-    let found = text[place];
-    if (b' ' <= found) & (found <= b'~') {
-        found
-    } else {
-        b'?'
+fn printable(found: u8) -> char {
+    match found {
+        b' '..=b'~' => char::from(found),
+        _ => '?',
     }
 }

@@ -1,9 +1,6 @@
-pub mod SixGiven
-pub mod OneLineMore
-pub mod LineFaults
 pub mod LineByLine
+pub mod LineFaults
 pub mod CheckedOn
 pub mod FilledOn
 pub mod InPlain
-pub mod Marked
 pub mod Recordings

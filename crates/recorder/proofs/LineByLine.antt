@@ -1,72 +1,56 @@
--- A text line by line: the first line as the code takes it, and the text behind it.
+-- A text line by line: the byte order mark before the first line, and a line's line feed, if it has one, behind it.
 -- Assumes nothing.
-use Prim.Native.Nat.{ℕ, suc, ◌+◌, ◌-◌, ◌≤◌, ◌<◌}
+use Prim.Native.Nat.{ℕ, suc, min}
+use native.Mathlib.Numerals.{add-one}
 use native.Mathlib.Omega.{arith}
-use mathlib.Core.Bool.{Bool, true, false, cond}
-use mathlib.Core.List.{List, ◌∷◌}
-use mathlib.Core.Path.{◌≡◌, refl, sym, ap, ◌∙◌}
-use borrow.Author.Tests.{ltb-false, ltb-true}
-use lib.Dec.{ltb}
-use lib.ListN.{drop, drop_of_length-le, length, length-drop, take}
-use lib.Seq.{drop-drop, take_all}
-use Rattle.plan_lines.proofs.Pieces.{first_piece}
-use Rattle.recorder.specs.FirstLine.{FirstLine}
-use Rattle.plan_lines.specs.Leading.{leading, not_line_feed}
-use Rattle.rules_plan.specs.Lines.{line_of}
-use Rattle.rules_plan.specs.Words.{line_feed, lines}
-use Rattle.rules_plan.specs.declared.Line.{Line}
+use lib.Dec.{eqb}
+use mathlib.Core.List.{List, [], ◌∷◌}
+use mathlib.Core.Path.{◌≡◌, ap, ap₂, refl, sym, ◌∙◌}
+use lib.ListN.{drop, length, take}
+use lib.Seq.{drop-drop}
+use Rattle.plan_lines.proofs.Pieces.{first_piece, leading_is}
+use Rattle.plan_lines.specs.Leading.{not_line_feed}
+use Rattle.rules_plan.specs.Words.{line_feed, lines, mark, mark_size, pieces}
+use lib.Pointwise.{pointwise}
+use mathlib.Core.Bool.{Bool, cond, ◌&&◌}
+use Rattle.rules.specs.Screen.{same}
+use Rattle.std.proofs.lemmas.Bool.Decides.{nat_tests}
+use Rattle.std.specs.List.{prefix_len, starts_with}
 
--- Behind a line is its line feed, or nothing.
-behind : (text : List ℕ) (at k past : ℕ) → past ≡ cond (ltb (at + k) (length text)) (suc (at + k)) (at + k)
-    → drop (suc k) (drop at text) ≡ drop past text
-behind text at k past e = go (ltb (at + k) (length text)) refl ∙ ap (λ (n : ℕ). drop n text) (sym e)
-  where
-    go : (t : Bool) → ltb (at + k) (length text) ≡ t
-        → drop (suc k) (drop at text) ≡ drop (cond t (suc (at + k)) (at + k)) text
-    go true q =
-        let past : at + suc k ≡ suc (at + k) = omega arith in
-        drop-drop (suc k) at text ∙ ap (λ (n : ℕ). drop n text) past
-    go false q =
-        let ended = ltb-false (at + k) (length text) q in
-        let past : length text ≤ at + suc k = omega arith in
-        drop-drop (suc k) at text ∙ drop_of_length-le text past ∙ sym (drop_of_length-le text ended)
+-- ---- the mark
 
-pub first_line : (text : List ℕ) (at k end past : ℕ) (found : Line) → at < length text
-    → k ≡ leading not_line_feed (take (length text - at) (drop at text))
-    → end ≡ at + k
-    → found ≡ line_of (take (end - at) (drop at text))
-    → past ≡ cond (ltb end (length text)) (suc end) end
-    → FirstLine (drop at text) found (drop past text)
-first_line text at k end past found h e w f g =
-    record {
-      line = take k (drop at text);
-      parted = first_piece line_feed (drop at text) (λ z. omega (arith, length-drop at text)) ∙ both;
-      says = f ∙ ap (λ (n : ℕ). line_of (take n (drop at text))) long;
-    }
-  where
-    long : end - at ≡ k
-    long = omega arith
+pointwise_same : (l k : List ℕ) → pointwise eqb k l ≡ same l k
+pointwise_same [] [] = refl
+pointwise_same [] (y ∷ k) = refl
+pointwise_same (x ∷ l) [] = refl
+pointwise_same (x ∷ l) (y ∷ k) = ap₂ ◌&&◌ (grind (arith, nat_tests)) (pointwise_same l k)
 
-    all : length (drop at text) ≤ length text - at
-    all = omega (arith, length-drop at text)
+pub mark_by : (r : Bool) (text : List ℕ) → r ≡ starts_with eqb text mark → mark_size text ≡ cond r 3 0
+unfolding mark_size
+mark_by r text e = ap (λ (t : Bool). cond t 3 0) (sym (e ∙ pointwise_same (take 3 text) mark))
 
-    before : leading not_line_feed (drop at text) ≡ k
-    before = sym (e ∙ ap (leading not_line_feed) (take_all (length text - at) (drop at text) all))
+-- ---- a line
 
-    at_past : past ≡ cond (ltb (at + k) (length text)) (suc (at + k)) (at + k)
-    at_past = g ∙ ap (λ (n : ℕ). cond (ltb n (length text)) (suc n) n) w
+pub no_lines : (text : List ℕ) → length text ≡ 0 → lines text ≡ []
+unfolding pieces
+no_lines [] h = refl
+no_lines (b ∷ text) h = absurd (omega arith)
 
-    from : ℕ → List (List ℕ)
-    from n = take n (drop at text) ∷ lines (drop (suc n) (drop at text))
+past_feed : (behind : List ℕ) → drop (min (length behind) 1) behind ≡ drop 1 behind
+past_feed [] = refl
+past_feed (b ∷ behind) =
+    let one : min (length (b ∷ behind)) 1 ≡ 1 = omega arith in ap (λ n. drop n (b ∷ behind)) one
 
-    both : from (leading not_line_feed (drop at text)) ≡ take k (drop at text) ∷ lines (drop past text)
-    both = ap from before ∙ ap (λ (l : List ℕ). take k (drop at text) ∷ lines l) (behind text at k past at_past)
-
--- It goes on behind the place, and not past the end.
-pub goes_on_lem : (n at end past : ℕ) → at < n → at ≤ end → end ≤ n → past ≡ cond (ltb end n) (suc end) end
-    → (at < past) × (past ≤ n)
-goes_on_lem n at end past h g k e = go (ltb end n) refl e
-  where
-    go : (t : Bool) → ltb end n ≡ t → past ≡ cond t (suc end) end → (at < past) × (past ≤ n)
-    go true q w = (omega arith, omega (arith, ltb-true end n q))
-    go false q w = (omega (arith, ltb-false end n q), omega arith)
+pub first_line : (text : List ℕ) (size feed : ℕ) (line behind next : List ℕ) → (length text ≡ 0 → ⊥)
+    → size ≡ prefix_len not_line_feed text
+    → line ≡ take size text
+    → behind ≡ drop size text
+    → feed ≡ min (length behind) 1
+    → next ≡ drop feed behind
+    → lines text ≡ line ∷ lines next
+first_line text size feed line behind next some s l b f n =
+    first_piece line_feed text some
+    ∙ ap (λ k. take k text ∷ lines (drop (suc k) text)) (sym (s ∙ leading_is not_line_feed text))
+    ∙ sym (ap₂ (λ l r. l ∷ lines r) l
+    (n ∙ ap (λ k. drop k behind) f ∙ past_feed behind ∙ ap (drop 1) b ∙ drop-drop 1 size text
+    ∙ ap (λ k. drop k text) (add-one size)))

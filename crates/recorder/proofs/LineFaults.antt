@@ -1,75 +1,138 @@
--- What is wrong with a line where it stands: by its words, a setting, a report, or neither; and at the end of the text.
+-- What is wrong with a line where it stands, and what has been said with it: of a setting, of a report, of neither.
 -- Assumes nothing.
-use Prim.Native.Nat.{ℕ, ◌≤◌}
-use native.Mathlib.Omega.{arith}
-use mathlib.Core.Bool.{Bool, true, false, not, ◌&&◌}
-use mathlib.Core.List.{[]}
-use mathlib.Core.Path.{◌≡◌, refl, sym, ap, ◌∙◌}
-use borrow.Author.Tests.{lt-leb, ltb-true}
-use lib.Dec.{leb, ltb}
-use Rattle.chains.proofs.Chains.{group_passes, group_refuses}
-use Rattle.recorder.specs.ByName.{report_fault, setting_fault}
+use Prim.Native.Nat.{ℕ, suc}
+use mathlib.Core.Bool.{Bool, cond, false, not, true, ◌&&◌}
+use mathlib.Core.List.{List, [], ◌∷◌}
+use mathlib.Core.Path.{◌≡◌, refl}
+use lib.Dec.{leb}
+use lib.ListN.{set}
+use Rattle.recorder.specs.Saying.{setting_line}
 use Rattle.rules.specs.Station.{within_limits}
-use Rattle.rules.specs.Words.{◌if◌then◌}
-use Rattle.rules_plan.specs.Faults.{all_given, checked_from, given_already, line_fault, with_line}
-use Rattle.rules_plan.specs.Lines.{is_report, is_setting}
-use Rattle.rules_plan.specs.declared.Checked.{Checked}
+use Rattle.rules.specs.Words.{any, ◌if◌then◌, ◌▷◌}
+use Rattle.rules.specs.declared.Report.{Report}
+use Rattle.rules_plan.specs.Answered.{fault_number, report_number, setting_number}
+use Rattle.rules_plan.specs.Faults.{all_given, given_already, line_fault, with_line, with_setting}
+use Rattle.rules_plan.specs.declared.Fault.{Fault}
 use Rattle.rules_plan.specs.declared.Line.{Line}
+use Rattle.rules_plan.specs.declared.ReportWord.{ReportWord}
 use Rattle.rules_plan.specs.declared.Said.{Said}
+use Rattle.rules_plan.specs.declared.Setting.{Setting}
+use Rattle.std.specs.List.{list_all}
 
-module _ (s : Said) (l : Line) where
-  pub by_words : (l.fault ≡ 0 → ⊥) → l.fault ≡ line_fault s l
-  unfolding line_fault
-  by_words h = group_refuses l.fault l.fault _ refl h
+pub all_is : (given : List Bool) → list_all (λ b. b) given ≡ not (any not given)
+all_is [] = refl
+all_is (true ∷ given) = all_is given
+all_is (false ∷ given) = refl
 
-  -- the tests behind the words, by what the line is
-  abbrev in_place : Bool → Bool → ℕ
-  in_place setting report =
-      6 if setting && leb 1 s.reports then
-      7 if setting && given_already s l then
-      9 if setting && all_given (with_line s l) && not (within_limits (with_line s l).settings) then
-      8 if report && not (all_given s) then
-      10 if report && leb 8190 s.reports then
-      0
+-- ---- its words by themselves
 
-  by_place : (setting report : Bool) (r : ℕ) → l.fault ≡ 0 → is_setting l ≡ setting → is_report l ≡ report
-      → r ≡ in_place setting report
-      → r ≡ line_fault s l
-  unfolding line_fault
-  by_place setting report r e f g h =
-      group_passes l.fault l.fault _ r refl e (h ∙ sym (λ i. in_place (f i) (g i)))
+pub words_first : (s : Said) (name : ℕ) (fault : Fault) (numbers : Report)
+    → fault_number fault ≡ line_fault s (record { name = name; fault = fault_number fault; numbers = numbers })
+unfolding line_fault ◌▷◌
+words_first s name Fault.NotAName numbers = refl
+words_first s name Fault.NumberMissing numbers = refl
+words_first s name Fault.WordTooMany numbers = refl
+words_first s name Fault.NotAByte numbers = refl
+words_first s name Fault.NotSixteenBits numbers = refl
+words_first s name Fault.LateSetting numbers = refl
+words_first s name Fault.SetAlready numbers = refl
+words_first s name Fault.SettingsMissing numbers = refl
+words_first s name Fault.SettingsOutside numbers = refl
+words_first s name Fault.TooManyReports numbers = refl
 
-  pub of_setting : (r : ℕ) → l.fault ≡ 0 → is_setting l ≡ true → r ≡ setting_fault s l → r ≡ line_fault s l
-  unfolding setting_fault ◌if◌then◌
-  of_setting r e f h = by_place true false r e f no_report_lem h
-    where
-      no_report_lem : is_report l ≡ false
-      no_report_lem = ap (λ (t : Bool). t && ltb l.name 14) (lt-leb 6 l.name (ltb-true l.name 6 f))
+-- ---- a setting
 
-  pub of_report_lem : (r : ℕ) → l.fault ≡ 0 → is_setting l ≡ false → is_report l ≡ true → r ≡ report_fault s
-      → r ≡ line_fault s l
-  unfolding report_fault ◌if◌then◌
-  of_report_lem r e f g h = by_place false true r e f g h
+module _ (s : Said) (numbers : Report) where
+  abbrev set_fault : Setting → ℕ
+  set_fault setting =
+      let l = setting_line setting numbers in
+      cond (leb 1 s.reports) 6
+      (cond (given_already s l) 7
+      (cond (all_given (with_line s l) && not (within_limits (with_line s l).settings)) 9 0))
 
-  pub of_neither : l.fault ≡ 0 → is_setting l ≡ false → is_report l ≡ false → 0 ≡ line_fault s l
-  unfolding ◌if◌then◌
-  of_neither e f g = by_place false false 0 e f g refl
+  pub setting_fault : (setting : Setting) → line_fault s (setting_line setting numbers) ≡ set_fault setting
+  unfolding line_fault ◌if◌then◌ ◌▷◌
+  setting_fault Setting.Tracks = refl
+  setting_fault Setting.T1 = refl
+  setting_fault Setting.T2 = refl
+  setting_fault Setting.T3 = refl
+  setting_fault Setting.T4 = refl
+  setting_fault Setting.T5 = refl
 
--- at the end of the text
-pub at_end : (s : Said) (fault : ℕ) → fault ≡ (11 if not (all_given s) then 0)
-    → ◌≡◌ {A = Checked} (record { fault = fault; line = 0; said = s }) (checked_from 0 s [])
-unfolding checked_from
-at_end s fault h = λ i. record { fault = h i; line = 0; said = s }
+  abbrev setting_said : Setting → Said
+  setting_said setting =
+      record {
+        given = set s.given (setting_number setting) true;
+        settings = with_setting s.settings (setting_line setting numbers);
+        reports = s.reports;
+      }
 
--- before the first report
-pub early : (reports : ℕ) → reports ≤ 0 → leb 1 reports ≡ false
-early reports h = lt-leb 1 reports (omega arith)
+  pub with_a_setting : (setting : Setting) → with_line s (setting_line setting numbers) ≡ setting_said setting
+  unfolding with_line
+  with_a_setting Setting.Tracks = refl
+  with_a_setting Setting.T1 = refl
+  with_a_setting Setting.T2 = refl
+  with_a_setting Setting.T3 = refl
+  with_a_setting Setting.T4 = refl
+  with_a_setting Setting.T5 = refl
 
--- whether the settings are outside their limits, as the code works it out
-pub tested : (s : Said) (l : Line) (next : Said) (all inside : Bool) → next ≡ with_line s l
-    → all ≡ all_given next
-    → inside ≡ within_limits next.settings
-    → (all_given (with_line s l) && not (within_limits (with_line s l).settings)) ≡ (all && not inside)
-tested s l next all inside e f g =
-    let within = g ∙ ap (λ (n : Said). within_limits n.settings) e in
-    sym (λ i. (f ∙ ap all_given e) i && not (within i))
+  -- ---- a report
+
+  abbrev report_line : ReportWord → Line
+  report_line word = record { name = report_number word; fault = 0; numbers = numbers }
+
+  pub report_fault : (word : ReportWord)
+      → line_fault s (report_line word) ≡ cond (not (all_given s)) 8 (cond (leb 8190 s.reports) 10 0)
+  unfolding line_fault ◌if◌then◌ ◌▷◌
+  report_fault ReportWord.Occupied = refl
+  report_fault ReportWord.Free = refl
+  report_fault ReportWord.Clock = refl
+  report_fault ReportWord.Failed = refl
+  report_fault ReportWord.Restored = refl
+  report_fault ReportWord.Head = refl
+  report_fault ReportWord.Normalise = refl
+  report_fault ReportWord.Report = refl
+
+  pub with_a_report : (word : ReportWord)
+      → with_line s (report_line word)
+      ≡ record { given = s.given; settings = s.settings; reports = suc s.reports }
+  unfolding with_line
+  with_a_report ReportWord.Occupied = refl
+  with_a_report ReportWord.Free = refl
+  with_a_report ReportWord.Clock = refl
+  with_a_report ReportWord.Failed = refl
+  with_a_report ReportWord.Restored = refl
+  with_a_report ReportWord.Head = refl
+  with_a_report ReportWord.Normalise = refl
+  with_a_report ReportWord.Report = refl
+
+  -- ---- neither
+
+  abbrev other_line : Line
+  other_line = record { name = 14; fault = 0; numbers = numbers }
+
+  abbrev empty_line : Line
+  empty_line = record { name = 15; fault = 0; numbers = numbers }
+
+  pub other_fault : line_fault s other_line ≡ 0
+  unfolding line_fault ◌if◌then◌ ◌▷◌
+  other_fault = refl
+
+  pub empty_fault : line_fault s empty_line ≡ 0
+  unfolding line_fault ◌if◌then◌ ◌▷◌
+  empty_fault = refl
+
+  pub with_other : with_line s other_line ≡ s
+  unfolding with_line
+  with_other = refl
+
+  pub with_empty : with_line s empty_line ≡ s
+  unfolding with_line
+  with_empty = refl
+
+-- what `with_line` rests on
+pub ruleset lines_said =
+    (words_first, report_fault, with_a_report, other_fault, empty_fault, with_other, with_empty)
+
+-- what `with_setting` rests on
+pub ruleset settings_said = (setting_fault, with_a_setting)

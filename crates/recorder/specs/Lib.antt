@@ -1,7 +1,5 @@
--- The first line of a text, and the text behind it
-pub mod FirstLine
--- What is wrong with a setting and with a report where it stands
-pub mod ByName
+-- What has been said with one line more, and what is wrong with a text
+pub mod Saying
 -- A register being filled, before a line and after it
 pub mod AfterLine
 -- A register filled, and the lines of its rows put down, line by line

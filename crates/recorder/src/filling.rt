@@ -1,16 +1,15 @@
 // The register of a text that is understood: its reports, each appended behind the last.
-ghost use Rattle.std.specs.Prelude.{◌≡◌, cond, true, ◌+◌, ◌<◌, ◌^◌, length, set};
-ghost use Rattle.recorder.specs.AfterLine.{after_line, filling};
+ghost use Rattle.std.specs.Prelude.{◌≡◌, IsTrue, set};
 ghost use Rattle.recorder.specs.ByLine.{filled_from, lines_from};
-ghost use Rattle.rules_plan.specs.Lines.{is_report};
-ghost use Rattle.rules_plan.specs.Recording.{reports_said, started_with};
+ghost use Rattle.rules.specs.Station.{within_limits};
+ghost use Rattle.rules_plan.specs.Recording.{started_with};
 ghost use Rattle.rules_plan.specs.Words.{lines, unmarked};
 
-use crate::parting::{after_mark, line_from};
-use crate::saying::is_report;
+use crate::parting::Lines;
+use crate::saying::report_in;
 use crate::{RegisterBytes, RowLines};
-use rules::{Settings, Station};
-use rules_plan::Line;
+use plan_lines::line_in;
+use rules::Settings;
 
 // Starts a register of the settings, enters the reports of the text, and puts down the line of each.
 pub(crate) fn fill(
@@ -19,62 +18,28 @@ pub(crate) fn fill(
     register: &mut RegisterBytes,
     rows: &mut RowLines,
 )
+    requires { IsTrue (within_limits settings) }
     ensures register_after { register.new ≡ (filled_from (started_with settings register.old) (lines (unmarked text.now))).bytes }
     ensures rows_after { rows.new ≡ lines_from 1 0 rows.old (lines (unmarked text.now)) }
-    ensures rows_len { 0 < length (reports_said text.now) → length rows.old ≡ 8190 }
 {
-    register::start(register, settings);
-    let mut station = station::make(settings).station;
-    let mut at = after_mark(text);
-    let mut line: usize = 1;
+    // Settings within their limits are never refused, and there is room for any register.
+    register::start(register, settings).unwrap();
+    let mut station = station::make(settings).unwrap();
+    let mut line: usize = 0;
     let mut count: usize = 0;
-    while at < text.len() {
-        let first = line_from(text, at);
-        let found = first.found;
-        let after = enter(found, line, count, station, register, rows);
-        let next = after.station;
-        station = next;
-        count = after.count;
+    for found in Lines::of(text) {
         line += 1;
-        at = first.past;
-    }
-}
-
-// How many reports there are after a line, and the station then.
-#[derive(Clone, Copy)]
-struct Entered {
-    count: usize,
-    station: Station,
-}
-
-// Enters the report of a line, if it is one.
-fn enter(
-    found: Line,
-    line: usize,
-    count: usize,
-    station: Station,
-    register: &mut RegisterBytes,
-    rows: &mut RowLines,
-) -> Entered
-    requires { count + 1 < 2 ^ 64 }
-    ensures register_after { filling result.count result.station register.new ≡ after_line found (filling count station register.old) }
-    ensures rows_after { rows.new ≡ cond (is_report found) (set rows.old count line) rows.old }
-    ensures rows_len { is_report found ≡ true → length rows.old ≡ 8190 }
-{
-    if !is_report(found) {
-        return Entered { count, station };
-    }
-    let report = found.numbers;
-    let taken = register::append(register, count, station, report);
-    put_line(rows, count, line);
-    let after = taken.station;
-    Entered {
-        count: count + 1,
-        station: after,
+        if let Some(report) = report_in(line_in(found)) {
+            // A report that is refused is entered too, and leaves the station as it was.
+            station = register::append(register, count, station, report).unwrap_or(station);
+            put_line(rows, count, line);
+            count += 1;
+        }
     }
 }
 
 // Puts down the line of a row, where there is a place for it.
+#[tactic(auto, using(crate::proofs::FilledOn::put_out))]
 fn put_line(rows: &mut [usize], row: usize, line: usize)
     ensures { rows.new ≡ set rows.old row line }
 {

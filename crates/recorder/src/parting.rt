@@ -1,47 +1,54 @@
 // A text in lines, one after the other.
-ghost use Rattle.std.specs.Prelude.{◌≡◌, cond, ◌≤◌, ◌<◌, suc, ltb, drop, length};
-ghost use Rattle.recorder.specs.FirstLine.{FirstLine};
-ghost use Rattle.rules_plan.specs.Words.{mark_size};
+ghost use Rattle.std.specs.Prelude.{◌≡◌, ◌≤◌, length};
+ghost use Rattle.std.specs.Iterator.{YieldsFirstRef, item_count};
+ghost use Rattle.rules_plan.specs.Words.{lines, mark_size, unmarked};
 
-use plan_lines::{before_line_feed, line_in};
-use rules_plan::Line;
+use plan_lines::before_line_feed;
 
 // Where the first line begins: behind the byte order mark, if there is one.
+#[tactic(auto, using(crate::proofs::LineByLine::mark_by))]
 pub fn after_mark(text: &[u8]) -> usize
     ensures value { result ≡ mark_size text.now }
     ensures upper_bound { result ≤ length text.now }
 {
-    if text.len() < 3 {
-        return 0;
+    if text.starts_with(b"\xEF\xBB\xBF") {
+        3
+    } else {
+        0
     }
-    let marked = (text[0] == 0xEF) & (text[1] == 0xBB) & (text[2] == 0xBF);
-    if marked { 3 } else { 0 }
 }
 
-// Where the next line begins, behind a line that ends at a place: past its line feed, if it has one.
-fn next_line(text: &[u8], end: usize) -> usize
-    ensures { result ≡ cond (ltb end (length text.now)) (suc end) end }
-{
-    if end < text.len() { end + 1 } else { end }
-}
-
-// What a line says, and where the next one begins.
+// The lines of a text, without their line feeds.
 #[derive(Clone, Copy)]
-pub(crate) struct Parted {
-    pub(crate) found: Line,
-    pub(crate) past: usize,
+pub(crate) struct Lines<'a> {
+    text: &'a [u8],
 }
 
-// The line that begins at a place.
-pub(crate) fn line_from(text: &[u8], at: usize) -> Parted
-    requires { at < length text.now }
-    ensures first_line { FirstLine (drop at text.now) result.found (drop result.past text.now) }
-    ensures at_lt_past { (at < result.past) × (result.past ≤ length text.now) }
-{
-    let end = at + before_line_feed(&text[at..]);
-    let found = line_in(&text[at..end]);
-    Parted {
-        found,
-        past: next_line(text, end),
+impl<'a> Lines<'a> {
+    #[tactic(auto, unfolding(rules_plan::specs::Words::unmarked))]
+    pub(crate) fn of(text: &'a [u8]) -> Self
+        ensures { result.text.now ≡ unmarked text.now }
+    {
+        let (_, text) = text.split_at(after_mark(text));
+        Self { text }
+    }
+}
+
+impl<'a> Iterator for Lines<'a> {
+    type Item = &'a [u8];
+
+    ghost next_gives = { YieldsFirstRef (λ s. lines s.text.now) };
+
+    ghost remaining = { item_count (λ s. lines s.text.now) };
+
+    fn next(&mut self) -> Option<&'a [u8]> {
+        if self.text.is_empty() {
+            return None;
+        }
+        let (line, behind) = self.text.split_at(before_line_feed(self.text));
+        // Behind a line is its line feed, or nothing.
+        let (_feed, next) = behind.split_at(behind.len().min(1));
+        self.text = next;
+        Some(line)
     }
 }

@@ -1,16 +1,21 @@
 // What the lines of a text have said so far, and what one line more makes of it.
-ghost use Rattle.std.specs.Prelude.{◌≡◌, cond, ◌+◌, ◌<◌, ◌^◌, suc};
-ghost use Rattle.rules_plan.specs.Faults.{all_given, given_already, nothing_said, with_line, with_setting};
-ghost use Rattle.rules_plan.specs.Lines.{is_report, is_setting};
+ghost use Rattle.std.specs.Prelude.{◌≡◌, ◌<◌};
+ghost use Rattle.recorder.specs.Saying.{SaidWith, setting_line};
+ghost use Rattle.rules.specs.Answered.{given};
+ghost use Rattle.rules.specs.Screen.{provided};
+ghost use Rattle.rules_plan.specs.Answered.{said_line, setting_number};
+ghost use Rattle.rules_plan.specs.Faults.{all_given, nothing_said, with_setting};
+ghost use Rattle.rules_plan.specs.Lines.{is_report};
 
-use rules::Settings;
-use rules_plan::{Line, OCCUPIED, OTHER_WORD, Said, T1, T2, T3, T4, T5, TRACKS};
+use rules::{MOST, Report, Settings};
+use rules_plan::{Fault, Said, Setting, Spoken, Word};
 
+#[tactic(auto, unfolding(rules_plan::specs::Faults::nothing_said))]
 pub(crate) fn nothing_said() -> Said
     ensures { result ≡ nothing_said }
 {
     Said {
-        given: [false, false, false, false, false, false],
+        given: [false; 6],
         settings: Settings {
             tracks: 0,
             t1: 0,
@@ -23,87 +28,104 @@ pub(crate) fn nothing_said() -> Said
     }
 }
 
-pub(crate) fn is_setting(found: Line) -> bool
-    ensures { result ≡ is_setting found }
-{
-    found.name < OCCUPIED
-}
-
-pub(crate) fn is_report(found: Line) -> bool
-    ensures { result ≡ is_report found }
-{
-    (OCCUPIED <= found.name) & (found.name < OTHER_WORD)
-}
-
 pub(crate) fn all_given(said: Said) -> bool
     ensures { result ≡ all_given said }
 {
-    let given = said.given;
-    given[0] & given[1] & given[2] & given[3] & given[4] & given[5]
+    said.given.iter().all(|&given| given)
 }
 
-pub(crate) fn given_already(said: Said, found: Line) -> bool
-    ensures { result ≡ given_already said found }
+// The report that a line says, if it says one.
+pub(crate) fn report_in(found: Spoken) -> Option<Report>
+    ensures { given result ≡ provided (is_report (said_line found)) found.numbers }
 {
-    let given = said.given;
-    let place = found.name as usize;
-    if place < 6 { given[place] } else { false }
-}
-
-// What has been said with one line more.
-pub(crate) fn with_line(said: Said, found: Line) -> Said
-    requires { said.reports + 1 < 2 ^ 64 }
-    ensures { result ≡ with_line said found }
-{
-    let mut given = said.given;
-    let settings = said.settings;
-    let place = found.name as usize;
-    if place < 6 {
-        given[place] = true;
-        return Said {
-            given,
-            settings: with_setting(settings, found),
-            reports: said.reports,
-        };
+    match found.word {
+        Some(Word::Report(_)) => Some(found.numbers),
+        _ => None,
     }
-    Said {
+}
+
+// What has been said with one line more, or what is wrong with the line after what was said before it: its words by
+// themselves come first.
+#[tactic(auto, using(crate::proofs::LineFaults::lines_said))]
+pub(crate) fn with_line(said: Said, found: Spoken) -> Result<Said, Fault>
+    ensures { SaidWith said (said_line found) result }
+{
+    found.understood?;
+    match found.word {
+        Some(Word::Setting(setting)) => with_setting(said, setting, found.numbers),
+        Some(Word::Report(_)) if !all_given(said) => Err(Fault::SettingsMissing),
+        Some(Word::Report(_)) if MOST <= said.reports => Err(Fault::TooManyReports),
+        Some(Word::Report(_)) => Ok(Said {
+            reports: said.reports + 1,
+            ..said
+        }),
+        Some(Word::Other) | None => Ok(said),
+    }
+}
+
+#[tactic(auto, using(crate::proofs::LineFaults::settings_said))]
+fn with_setting(said: Said, setting: Setting, numbers: Report) -> Result<Said, Fault>
+    ensures { SaidWith said (setting_line setting numbers) result }
+{
+    if 0 < said.reports {
+        return Err(Fault::LateSetting);
+    }
+    let mut given = said.given;
+    let place = place_of(setting);
+    if given[place] {
+        return Err(Fault::SetAlready);
+    }
+    given[place] = true;
+    let settings = set(said.settings, setting, numbers);
+    let next = Said {
         given,
         settings,
-        reports: reports_after(said.reports, is_report(found)),
+        ..said
+    };
+    if all_given(next) && !islands::within_limits(settings) {
+        return Err(Fault::SettingsOutside);
     }
+    Ok(next)
 }
 
-// One more where a line is a report.
-fn reports_after(reports: usize, more: bool) -> usize
-    requires { reports + 1 < 2 ^ 64 }
-    ensures { result ≡ cond more (suc reports) reports }
+// The place of a setting among the six.
+fn place_of(setting: Setting) -> usize
+    ensures value { result ≡ setting_number setting }
+    ensures upper_bound { result < 6 }
 {
-    if more { reports + 1 } else { reports }
+    setting as usize
 }
 
-fn with_setting(settings: Settings, found: Line) -> Settings
-    ensures { result ≡ with_setting settings found }
+// The settings with one of them as a line has it.
+#[tactic(auto, unfolding(rules_plan::specs::Faults::with_setting))]
+fn set(settings: Settings, setting: Setting, numbers: Report) -> Settings
+    ensures { result ≡ with_setting settings (setting_line setting numbers) }
 {
-    let numbers = found.numbers;
-    let name = found.name;
-    Settings {
-        tracks: chosen_byte(name == TRACKS, numbers.a, settings.tracks),
-        t1: chosen(name == T1, numbers.value, settings.t1),
-        t2: chosen(name == T2, numbers.value, settings.t2),
-        t3: chosen(name == T3, numbers.value, settings.t3),
-        t4: chosen(name == T4, numbers.value, settings.t4),
-        t5: chosen(name == T5, numbers.value, settings.t5),
+    let value = numbers.value;
+    match setting {
+        Setting::Tracks => Settings {
+            tracks: numbers.a,
+            ..settings
+        },
+        Setting::T1 => Settings {
+            t1: value,
+            ..settings
+        },
+        Setting::T2 => Settings {
+            t2: value,
+            ..settings
+        },
+        Setting::T3 => Settings {
+            t3: value,
+            ..settings
+        },
+        Setting::T4 => Settings {
+            t4: value,
+            ..settings
+        },
+        Setting::T5 => Settings {
+            t5: value,
+            ..settings
+        },
     }
-}
-
-fn chosen_byte(here: bool, found: u8, was: u8) -> u8
-    ensures { result ≡ cond here found was }
-{
-    if here { found } else { was }
-}
-
-fn chosen(here: bool, found: u16, was: u16) -> u16
-    ensures { result ≡ cond here found was }
-{
-    if here { found } else { was }
 }

@@ -1,29 +1,17 @@
--- What is made of a report: the island that it names, and the answer with the station after it.
+-- What is made of a report: the answer, and the station after it.
 -- Assumes nothing.
 use Prim.Native.Nat.{ℕ, ◌<◌}
 use native.Mathlib.Omega.{arith}
-use mathlib.Core.Path.{◌≡◌, ap, ap₂, ◌∙◌}
+use mathlib.Core.Path.{◌≡◌, ap}
 use mathlib.Core.Bool.{Bool, cond}
 use borrow.Author.Tests.{eq-eqb, ne_eqb}
 use Rattle.chains.proofs.Chains.{group_below, test_below}
 use Rattle.rules.specs.Answers.{answer_of, form_answer, place_answer, state_answer, station_after}
 use Rattle.rules.specs.Kinds.{kind_of}
-use Rattle.rules.specs.Reports.{acted, named_track, with_island, with_named}
-use Rattle.rules.specs.Station.{settings_answer, track_at, with_track}
-use Rattle.rules.specs.declared.Island.{Island}
+use Rattle.rules.specs.Reports.{acted}
+use Rattle.rules.specs.Station.{settings_answer}
 use Rattle.rules.specs.declared.Report.{Report}
 use Rattle.rules.specs.declared.Station.{Station}
-use Rattle.rules.specs.declared.Track.{Track}
-
--- the station with what becomes of the island that the report names
-pub named : (now : Track → ℕ → Island) (s : Station) (r : Report) (t : Track) (i : Island) (w : Station)
-    → t ≡ track_at s r.a
-    → i ≡ now t r.b
-    → w ≡ with_track s r.a (with_island t r.b i)
-    → w ≡ with_named s r (now (named_track s r) r.b)
-named now s r t i w et ei ew =
-    ew ∙ ap₂ (λ (u : Track) (j : Island). with_track s r.a (with_island u r.b j)) et (ei
-    ∙ ap (λ (u : Track). now u r.b) et)
 
 -- a kind is what its number means
 pub meant : (s : Station) (r : Report) {k : ℕ} → r.kind ≡ k → acted (kind_of r.kind) s r ≡ acted (kind_of k) s r

@@ -1,80 +1,58 @@
 // Document 01, "Reports": what an accepted report does.
 ghost use Rattle.std.specs.Prelude.{◌≡◌};
-ghost use Rattle.rules.specs.Kinds.{detector_failed, detector_restored, head_condition, island_free, island_occupied, kind_of, normalise};
-ghost use Rattle.rules.specs.Reports.{acted, with_island};
+ghost use Rattle.reports.specs.Placed.{track_after};
+ghost use Rattle.rules.specs.Kinds.{kind_of};
+ghost use Rattle.rules.specs.Reports.{acted, named_track};
 ghost use Rattle.rules.specs.Station.{with_track};
 
-use rules::{
-    CLOCK, DETECTOR_FAILED, DETECTOR_RESTORED, HEAD_CONDITION, ISLAND_FREE, ISLAND_OCCUPIED,
-    Island, NORMALISE, Report, Station, Track,
-};
+use crate::known::Known;
+use rules::{Kind, Report, Station, Track};
 
-pub(crate) fn act(station: Station, report: Report) -> Station
-    ensures { result ≡ acted (kind_of report.kind) station report }
-{
-    let kind = report.kind;
-    match kind {
-        ISLAND_OCCUPIED => occupied(station, report),
-        ISLAND_FREE => freed(station, report),
-        CLOCK => clock::ticks(station, report.value),
-        DETECTOR_FAILED => failed(station, report),
-        DETECTOR_RESTORED => restored(station, report),
-        HEAD_CONDITION => conditioned(station, report),
-        NORMALISE => normalised(station, report),
-        _ => station,
+impl Known {
+    // The station after the report, where it is accepted.
+    #[tactic(auto, unfolding(rules::specs::Reports::acted, crate::specs::Placed::track_after))]
+    pub(crate) fn act(self, station: Station) -> Station
+        ensures { result ≡ acted (kind_of self.report.kind) station self.report }
+    {
+        let Report { a, value, .. } = self.report;
+        let changed = match self.kind {
+            Kind::Clock => return clock::ticks(station, value),
+            Kind::IslandOccupied | Kind::IslandFree | Kind::DetectorRestored => {
+                self.with_named(station)
+            }
+            Kind::DetectorFailed => station::with_fault(self.with_named(station), true),
+            Kind::HeadCondition => station::with_condition(station, a, value),
+            Kind::Normalise => station::with_hold(station::with_fault(station, false), 0),
+        };
+        station::hold_set(changed)
     }
-}
 
-fn occupied(station: Station, report: Report) -> Station
-    ensures { result ≡ acted island_occupied station report }
-{
-    let track = station::track_at(station, report.a);
-    let island = islands::occupied_now(track, report.b);
-    station::hold_set(with_named(station, report, track, island))
-}
+    // The station with the track that the report names as it is after the report.
+    #[tactic(auto, unfolding(rules::specs::Station::with_track, rules::specs::Station::track_at))]
+    fn with_named(self, mut station: Station) -> Station
+        ensures { result ≡ with_track station self.report.a (track_after (kind_of self.report.kind) (named_track station self.report) self.report) }
+    {
+        let at = usize::from(self.report.a);
+        if at < station.tracks.len() {
+            station.tracks[at] = self.track_after(station.tracks[at]);
+        }
+        station
+    }
 
-fn freed(station: Station, report: Report) -> Station
-    ensures { result ≡ acted island_free station report }
-{
-    let track = station::track_at(station, report.a);
-    let island = islands::free_now(track, report.b);
-    station::hold_set(with_named(station, report, track, island))
-}
-
-fn failed(station: Station, report: Report) -> Station
-    ensures { result ≡ acted detector_failed station report }
-{
-    let track = station::track_at(station, report.a);
-    let island = islands::detector_now(true, track, report.b);
-    let next = with_named(station, report, track, island);
-    station::hold_set(station::with_fault(next, true))
-}
-
-fn restored(station: Station, report: Report) -> Station
-    ensures { result ≡ acted detector_restored station report }
-{
-    let track = station::track_at(station, report.a);
-    let island = islands::detector_now(false, track, report.b);
-    station::hold_set(with_named(station, report, track, island))
-}
-
-fn conditioned(station: Station, report: Report) -> Station
-    ensures { result ≡ acted head_condition station report }
-{
-    station::hold_set(station::with_condition(station, report.a, report.value))
-}
-
-fn normalised(station: Station, report: Report) -> Station
-    ensures { result ≡ acted normalise station report }
-{
-    let next = station::with_fault(station, false);
-    station::hold_set(station::with_hold(next, 0))
-}
-
-// The station with another island in the place that the report names, on the track that stands there.
-fn with_named(station: Station, report: Report, track: Track, island: Island) -> Station
-    ensures { result ≡ with_track station report.a (with_island track report.b island) }
-{
-    let next = islands::with_island(track, report.b, island);
-    station::with_track(station, report.a, next)
+    // The track after the report; a report that names no island leaves it as it is.
+    #[inline(always)]
+    #[tactic(auto, unfolding(crate::specs::Placed::track_after))]
+    pub(crate) fn track_after(self, track: Track) -> Track
+        ensures { result ≡ track_after (kind_of self.report.kind) track self.report }
+    {
+        let number = self.report.b;
+        let island = match self.kind {
+            Kind::IslandOccupied => islands::occupied_now(track, number),
+            Kind::IslandFree => islands::free_now(track, number),
+            Kind::DetectorFailed => islands::detector_now(true, track, number),
+            Kind::DetectorRestored => islands::detector_now(false, track, number),
+            Kind::Clock | Kind::HeadCondition | Kind::Normalise => return track,
+        };
+        islands::with_island(track, number, island)
+    }
 }

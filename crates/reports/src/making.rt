@@ -4,58 +4,55 @@
 ghost use Rattle.std.specs.Prelude.{◌≡◌};
 ghost use Rattle.rules.specs.OfEachKind.{clock as OfEachKind·clock, condition as OfEachKind·condition, failed as OfEachKind·failed, freed as OfEachKind·freed, normalised, occupied as OfEachKind·occupied, report as OfEachKind·report, restored as OfEachKind·restored};
 
-use rules::{
-    CLOCK, DETECTOR_FAILED, DETECTOR_RESTORED, HEAD_CONDITION, ISLAND_FREE, ISLAND_OCCUPIED,
-    NORMALISE, Report,
-};
+use rules::{Kind, Report};
 
 // Island occupied.
 pub fn occupied(track: u8, island: u8) -> Report
     ensures { result ≡ OfEachKind·occupied track island }
 {
-    report(ISLAND_OCCUPIED, track, island, 0, 0)
+    report(Kind::IslandOccupied as u8, track, island, 0, 0)
 }
 
 // Island free.
 pub fn freed(track: u8, island: u8) -> Report
     ensures { result ≡ OfEachKind·freed track island }
 {
-    report(ISLAND_FREE, track, island, 0, 0)
+    report(Kind::IslandFree as u8, track, island, 0, 0)
 }
 
 // Clock: so many ticks have gone.
 pub fn clock(ticks: u16) -> Report
     ensures { result ≡ OfEachKind·clock ticks }
 {
-    report(CLOCK, 0, 0, 0, ticks)
+    report(Kind::Clock as u8, 0, 0, 0, ticks)
 }
 
 // Detector failed.
 pub fn failed(track: u8, island: u8) -> Report
     ensures { result ≡ OfEachKind·failed track island }
 {
-    report(DETECTOR_FAILED, track, island, 0, 0)
+    report(Kind::DetectorFailed as u8, track, island, 0, 0)
 }
 
 // Detector restored.
 pub fn restored(track: u8, island: u8) -> Report
     ensures { result ≡ OfEachKind·restored track island }
 {
-    report(DETECTOR_RESTORED, track, island, 0, 0)
+    report(Kind::DetectorRestored as u8, track, island, 0, 0)
 }
 
 // Head condition: which parts of a head have failed.
 pub fn condition(head: u8, parts: u16) -> Report
     ensures { result ≡ OfEachKind·condition head parts }
 {
-    report(HEAD_CONDITION, head, 0, 0, parts)
+    report(Kind::HeadCondition as u8, head, 0, 0, parts)
 }
 
 // Normalise.
 pub fn normalise() -> Report
     ensures { result ≡ normalised }
 {
-    report(NORMALISE, 0, 0, 0, 0)
+    report(Kind::Normalise as u8, 0, 0, 0, 0)
 }
 
 // Any six bytes, of whatever kind.

@@ -4,50 +4,54 @@
 
 mod reported;
 mod showing;
-mod words;
 
+use rules::Refusal;
+use sheet::MOST_BYTES;
 use std::env::Env;
 use std::io;
 use std::process::ExitCode;
+use verb::Status;
 
-// The most bytes that a register has.
-const MOST_BYTES: usize = 65536;
+// A row that no register has.
+const NO_ROW: usize = 65536;
 
 fn main(rt: HostRuntime) -> ExitCode {
     // One byte more than a register has: more is refused before any other test, as by the printer.
-    let mut input = [0u8; 65537];
-    let length = verb::read(&rt, &mut input);
+    let mut room = [0u8; 65537];
+    let input = verb::read(&rt, &mut room);
     if verb::input_failed(&rt) {
         return ExitCode::SUCCESS;
     }
-    verb::ended(&rt, rows(&rt, &input[..length]))
+    verb::ended(&rt, rows(&rt, input))
 }
 
 // The rows one after the other, up to the first that cannot be written.
-fn rows(rt: &(impl Env + Print), register: &[u8]) -> io::Result<u8> {
+fn rows(rt: &(impl Env + Print), register: &[u8]) -> io::Result<Status> {
     let mut refused = false;
     for place in 2..verb::words(rt) {
-        let now = row(rt, register, place)?;
-        refused = refused | now;
+        refused |= row(rt, register, place)?;
     }
-    Ok(if refused { verb::REFUSED } else { verb::DONE })
+    Ok(Status::refused_if(refused))
 }
 
 // The row that a word names, and whether it was refused.
 fn row(rt: &(impl Env + Print), register: &[u8], place: usize) -> io::Result<bool> {
-    let mut word = [0u8; 20];
-    let length = verb::word(rt, place, &mut word);
-    showing::named(rt, &word[..length])?;
+    let mut room = [0u8; 20];
+    let word = verb::word(rt, place, &mut room);
+    showing::named(rt, word)?;
     if MOST_BYTES < register.len() {
-        showing::refusal(rt, rules::NO_ROOM, 0)?;
+        showing::refusal(rt, Refusal::NoRoom.into())?;
         return Ok(true);
     }
-    let number = digits::number_in(&word[..length]) as usize;
-    let reading = browser::browse(register, number);
-    if reading.answer != rules::DONE {
-        showing::refusal(rt, reading.answer, reading.entry)?;
-        return Ok(true);
+    let number = digits::number_in(word).map_or(NO_ROW, usize::from);
+    match browser::browse(register, number) {
+        Ok(reading) => {
+            showing::row(rt, register::entry(register, number), reading.station)?;
+            Ok(false)
+        }
+        Err(unread) => {
+            showing::refusal(rt, unread)?;
+            Ok(true)
+        }
     }
-    showing::row(rt, register::entry(register, number), reading.station)?;
-    Ok(false)
 }

@@ -1,7 +1,6 @@
 // A row's lines, and an empty one behind them.
 use crate::reported::report;
-use crate::words::{answer, aspect, refused};
-use rules::{NOT_REPLAYED, Station, TrackPresence, ZoneDigits};
+use rules::{Refusal, Station, TrackPresence, Unread, ZoneDigits};
 use std::io;
 
 // Room for any line.
@@ -10,7 +9,7 @@ const LINE: usize = 80;
 // Writes a line of a label and two texts.
 fn line(rt: &impl Print, label: &[u8], first: &[u8], second: &[u8]) -> io::Result<()> {
     let mut text = [0u8; LINE];
-    let length = text::in_a_row(&mut text, label, first, second, b"", b"\n");
+    let length = text::in_a_row(&mut text, &[label, first, second, b"\n"]).unwrap_or(0);
     verb::write(rt, &text[..length])
 }
 
@@ -20,13 +19,12 @@ pub(crate) fn named(rt: &impl Print, word: &[u8]) -> io::Result<()> {
 }
 
 // What the row is refused with. The entry is named where the answer is 13.
-pub(crate) fn refusal(rt: &impl Print, answer: u8, entry: usize) -> io::Result<()> {
-    if answer == NOT_REPLAYED {
-        println!(rt;
+pub(crate) fn refusal(rt: &impl Print, unread: Unread) -> io::Result<()> {
+    match unread {
+        Unread::Refused(refusal) => println!(rt; "refused   {}: {refusal}", u8::from(refusal))?,
+        Unread::NotReplayed { entry } => println!(rt;
             "refused   13 at {entry}: the entry's answer or aspect is not what the replay gives"
-        )?;
-    } else {
-        refused(rt, answer)?;
+        )?,
     }
     verb::write(rt, b"\n")
 }
@@ -34,7 +32,8 @@ pub(crate) fn refusal(rt: &impl Print, answer: u8, entry: usize) -> io::Result<(
 // The row's entry, and what its station shows.
 pub(crate) fn row(rt: &impl Print, entry: &[u8], after: Station) -> io::Result<()> {
     entered(rt, entry)?;
-    aspect(rt, station::aspect(after))?;
+    let aspect = station::aspect(after);
+    println!(rt; "aspect    {} {aspect}", u8::from(aspect))?;
     heads(rt, after)?;
     zones(rt, station::zones(after))?;
     presence(rt, station::presence(after))?;
@@ -48,6 +47,14 @@ fn entered(rt: &impl Print, entry: &[u8]) -> io::Result<()> {
     }
     report(rt, register::report_in(entry))?;
     answer(rt, entry[6])
+}
+
+// The answer of an entry: no other than 0 to 7 is entered.
+fn answer(rt: &impl Print, number: u8) -> io::Result<()> {
+    match Refusal::try_from(number) {
+        Ok(refusal) => println!(rt; "answer    {number} {refusal}"),
+        Err(_) => verb::write(rt, b"answer    0 done\n"),
+    }
 }
 
 // The outputs of each head, in columns as a sheet has them: a blank stands behind each.
@@ -66,35 +73,16 @@ fn zones(rt: &impl Print, digits: ZoneDigits) -> io::Result<()> {
 
 // The tracks that count for the greatest risk.
 fn presence(rt: &impl Print, counts: TrackPresence) -> io::Result<()> {
-    let zero = counts[0];
-    let one = counts[1];
-    let two = counts[2];
-    let three = counts[3];
-    let some = zero | one | two | three;
-    let several = (zero & (one | two | three)) | (one & (two | three)) | (two & three);
-    presence_of(rt, some, several)?;
-    track(rt, zero, b" 0")?;
-    track(rt, one, b" 1")?;
-    track(rt, two, b" 2")?;
-    track(rt, three, b" 3")?;
+    let label = match counts.iter().filter(|&&counted| counted).count() {
+        0 => "no track",
+        1 => "track",
+        _ => "tracks",
+    };
+    print!(rt; "presence  {label}")?;
+    for (track, &counted) in counts.iter().enumerate() {
+        if counted {
+            print!(rt; " {track}")?;
+        }
+    }
     verb::write(rt, b"\n")
-}
-
-fn presence_of(rt: &impl Print, some: bool, several: bool) -> io::Result<()> {
-    if several {
-        return verb::write(rt, b"presence  tracks");
-    }
-    if some {
-        verb::write(rt, b"presence  track")
-    } else {
-        verb::write(rt, b"presence  no track")
-    }
-}
-
-fn track(rt: &impl Print, counted: bool, number: &[u8]) -> io::Result<()> {
-    if counted {
-        verb::write(rt, number)
-    } else {
-        Ok(())
-    }
 }

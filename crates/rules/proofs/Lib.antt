@@ -1,3 +1,4 @@
+pub mod Answered
 pub mod BrowseRows
 pub mod Computed
 pub mod FurtherRows

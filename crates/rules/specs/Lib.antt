@@ -17,5 +17,7 @@ pub mod Answers
 pub mod Printer
 -- Document 02, request 1
 pub mod Screen
+-- The answers as enums: what they are to the paper.
+pub mod Answered
 -- What tries it.
 pub mod rows

@@ -1,15 +1,19 @@
 // The paper: what document 01 speaks of, and its numbers by name, in its order. What it says of them
-// is in specs/. Nothing runs here but the conversions of siting's numbers, since they have to stand
-// beside their structs.
+// is in specs/. Nothing runs here but conversions, since they have to stand beside their types: between
+// an enum and its numbers or words, and of siting's numbers.
 #![tactic(auto)]
 
-ghost use Rattle.std.specs.Prelude.{◌≡◌};
+ghost use Rattle.std.specs.Prelude.{◌≡◌, Err};
+ghost use Rattle.rules.specs.Answered.{AspectNumbered, KindNumbered, RefusalNumbered, answered, aspect_number, reading_in, refusal_number};
+ghost use Rattle.rules.specs.declared.Unread.TheVariants.{Refused};
+
+use std::fmt;
 
 // ---- "What the station is"
 
 // The number of tracks, and the timers in ticks. A tick is a tenth of a second.
 #[repr(C)]
-#[derive(Clone, Copy)]
+#[derive(Clone, Copy, PartialEq, Eq)]
 pub struct Settings {
     pub tracks: u8,
     pub t1: u16,
@@ -68,20 +72,38 @@ pub struct Report {
     pub value: u16,
 }
 
-// The kinds of report.
-pub const ISLAND_OCCUPIED: u8 = 1;
+// The kinds of report, by number.
+#[derive(Clone, Copy, Debug, PartialEq, Eq)]
+pub enum Kind {
+    IslandOccupied = 1,
+    IslandFree = 2,
+    Clock = 3,
+    DetectorFailed = 4,
+    DetectorRestored = 5,
+    HeadCondition = 6,
+    Normalise = 7,
+}
 
-pub const ISLAND_FREE: u8 = 2;
+// The kind with a number, 1 to 7.
+impl TryFrom<u8> for Kind {
+    type Error = Refusal;
 
-pub const CLOCK: u8 = 3;
+    ghost try_from_gives = { KindNumbered };
 
-pub const DETECTOR_FAILED: u8 = 4;
-
-pub const DETECTOR_RESTORED: u8 = 5;
-
-pub const HEAD_CONDITION: u8 = 6;
-
-pub const NORMALISE: u8 = 7;
+    #[tactic(auto, unfolding(crate::specs::Kinds::kind_of))]
+    fn try_from(number: u8) -> Result<Self, Refusal> {
+        match number {
+            1 => Ok(Self::IslandOccupied),
+            2 => Ok(Self::IslandFree),
+            3 => Ok(Self::Clock),
+            4 => Ok(Self::DetectorFailed),
+            5 => Ok(Self::DetectorRestored),
+            6 => Ok(Self::HeadCondition),
+            7 => Ok(Self::Normalise),
+            _ => Err(Refusal::NoSuchKind),
+        }
+    }
+}
 
 // The answer to a report, and the station after it.
 #[repr(C)]
@@ -93,18 +115,61 @@ pub struct Taken {
 
 // ---- "From islands to aspect"
 
-// The aspects by number.
-pub const PERMITTED: u8 = 0;
+// The aspects, by number.
+#[derive(Clone, Copy, Debug, PartialEq, Eq)]
+pub enum Aspect {
+    Permitted = 0,
+    Clearing = 1,
+    Forbidden = 2,
+    GreatestRisk = 3,
+    Surroundings = 4,
+    OutOfService = 5,
+}
 
-pub const CLEARING: u8 = 1;
+// A number that no aspect has.
+#[derive(Clone, Copy, Debug, PartialEq, Eq)]
+pub struct NoSuchAspect(pub u8);
 
-pub const FORBIDDEN: u8 = 2;
+// The aspect with a number, 0 to 5.
+impl TryFrom<u8> for Aspect {
+    type Error = NoSuchAspect;
 
-pub const GREATEST_RISK: u8 = 3;
+    ghost try_from_gives = { AspectNumbered };
 
-pub const SURROUNDINGS: u8 = 4;
+    fn try_from(number: u8) -> Result<Self, NoSuchAspect> {
+        match number {
+            0 => Ok(Self::Permitted),
+            1 => Ok(Self::Clearing),
+            2 => Ok(Self::Forbidden),
+            3 => Ok(Self::GreatestRisk),
+            4 => Ok(Self::Surroundings),
+            5 => Ok(Self::OutOfService),
+            _ => Err(NoSuchAspect(number)),
+        }
+    }
+}
 
-pub const OUT_OF_SERVICE: u8 = 5;
+// By name.
+impl fmt::Display for Aspect {
+    fn fmt<W: fmt::Write>(&self, f: &mut fmt::Formatter<W>) -> fmt::Result {
+        f.write_str(match self {
+            Self::Permitted => "permitted",
+            Self::Clearing => "clearing",
+            Self::Forbidden => "forbidden",
+            Self::GreatestRisk => "greatest risk",
+            Self::Surroundings => "trains in the surroundings",
+            Self::OutOfService => "out of service",
+        })
+    }
+}
+
+impl From<Aspect> for u8 {
+    ghost from_gives = { λ aspect number. number ≡ aspect_number aspect };
+
+    fn from(aspect: Aspect) -> Self {
+        aspect as u8
+    }
+}
 
 // Whether a track counts for the greatest risk.
 pub type TrackPresence = [bool; 4];
@@ -184,31 +249,35 @@ pub struct Sited {
     pub distance: Decimetres,
 }
 
-impl Seconds {
-    pub fn of(number: u16) -> Self
-        ensures { result ≡ record { 0 = number } }
-    {
-        Self(number)
-    }
+impl From<u16> for Seconds {
+    ghost from_gives = { λ number seconds. seconds ≡ record { 0 = number } };
 
-    pub fn number(self) -> u16
-        ensures { result ≡ self.0 }
-    {
-        self.0
+    fn from(seconds: u16) -> Self {
+        Self(seconds)
     }
 }
 
-impl Decimetres {
-    pub fn of(number: u32) -> Self
-        ensures { result ≡ record { 0 = number } }
-    {
-        Self(number)
-    }
+impl From<Seconds> for u16 {
+    ghost from_gives = { λ seconds number. number ≡ seconds.0 };
 
-    pub fn number(self) -> u32
-        ensures { result ≡ self.0 }
-    {
-        self.0
+    fn from(seconds: Seconds) -> Self {
+        seconds.0
+    }
+}
+
+impl From<u32> for Decimetres {
+    ghost from_gives = { λ number decimetres. decimetres ≡ record { 0 = number } };
+
+    fn from(decimetres: u32) -> Self {
+        Self(decimetres)
+    }
+}
+
+impl From<Decimetres> for u32 {
+    ghost from_gives = { λ decimetres number. number ≡ decimetres.0 };
+
+    fn from(decimetres: Decimetres) -> Self {
+        decimetres.0
     }
 }
 
@@ -232,42 +301,151 @@ pub struct Reading {
     pub station: Station,
 }
 
+// What reading or stepping gives: how many entries were read, and the station after them.
+#[derive(Clone, Copy)]
+pub struct Replayed {
+    pub count: usize,
+    pub station: Station,
+}
+
+// Why there is nothing to read: a number of its own, or the first entry, counted from 1, whose answer or
+// aspect is not what the replay gives.
+#[derive(Clone, Copy, Debug, PartialEq, Eq)]
+pub enum Unread {
+    Refused(Refusal),
+    NotReplayed { entry: usize },
+}
+
+impl Unread {
+    // The number that is answered: 13 where an entry is named.
+    pub fn number(self) -> u8
+        ensures { result ≡ (reading_in (Err self)).answer }
+    {
+        match self {
+            Self::Refused(refused) => refused.into(),
+            Self::NotReplayed { .. } => NOT_REPLAYED,
+        }
+    }
+
+    // The entry that is named, or 0.
+    pub fn entry(self) -> usize
+        ensures { result ≡ (reading_in (Err self)).entry }
+    {
+        match self {
+            Self::Refused(_) => 0,
+            Self::NotReplayed { entry } => entry,
+        }
+    }
+}
+
+impl From<Refusal> for Unread {
+    ghost from_gives = { λ refusal unread. unread ≡ Refused refusal };
+
+    fn from(refusal: Refusal) -> Self {
+        Self::Refused(refusal)
+    }
+}
+
 // ---- "The numbers it answers"
 
-// Each number under a name. The definitions have the same names in specs/Numbers.antt.
+// 0 is done. 13 names an entry: an entry's answer or aspect isn't what the replay gives.
 pub const DONE: u8 = 0;
-
-pub const NO_SUCH_KIND: u8 = 1;
-
-pub const BAD_FIELD: u8 = 2;
-
-pub const NO_SUCH_TRACK: u8 = 3;
-
-pub const NO_SUCH_ISLAND: u8 = 4;
-
-pub const NO_SUCH_HEAD: u8 = 5;
-
-pub const ALREADY_SO: u8 = 6;
-
-pub const NOT_CLEAR: u8 = 7;
-
-pub const OUTSIDE_LIMITS: u8 = 8;
-
-pub const NOT_A_REGISTER: u8 = 9;
-
-pub const OTHER_VERSION: u8 = 10;
-
-pub const CUT_ENTRY: u8 = 11;
-
-pub const NO_ROOM: u8 = 12;
 
 pub const NOT_REPLAYED: u8 = 13;
 
-pub const NO_SUCH_ROW: u8 = 14;
+// What a report, setting, register or text is refused with, by number. 13 names an entry: it is a case of
+// Unread. The definitions have the same names in specs/Numbers.antt.
+#[derive(Clone, Copy, Debug, PartialEq, Eq)]
+pub enum Refusal {
+    NoSuchKind = 1,
+    BadField = 2,
+    NoSuchTrack = 3,
+    NoSuchIsland = 4,
+    NoSuchHead = 5,
+    AlreadySo = 6,
+    NotClear = 7,
+    OutsideLimits = 8,
+    NotARegister = 9,
+    OtherVersion = 10,
+    CutEntry = 11,
+    NoRoom = 12,
+    NoSuchRow = 14,
+    NotJson = 15,
+    BadMember = 16,
+}
 
-pub const NOT_JSON: u8 = 15;
+impl From<Refusal> for u8 {
+    ghost from_gives = { λ refusal number. number ≡ refusal_number refusal };
 
-pub const BAD_MEMBER: u8 = 16;
+    fn from(refusal: Refusal) -> Self {
+        refusal as u8
+    }
+}
+
+// A number that no refusal has.
+#[derive(Clone, Copy, Debug, PartialEq, Eq)]
+pub struct NoSuchRefusal(pub u8);
+
+// The refusal with a number: 1 to 12 or 14 to 16.
+impl TryFrom<u8> for Refusal {
+    type Error = NoSuchRefusal;
+
+    ghost try_from_gives = { RefusalNumbered };
+
+    fn try_from(number: u8) -> Result<Self, NoSuchRefusal> {
+        match number {
+            1 => Ok(Self::NoSuchKind),
+            2 => Ok(Self::BadField),
+            3 => Ok(Self::NoSuchTrack),
+            4 => Ok(Self::NoSuchIsland),
+            5 => Ok(Self::NoSuchHead),
+            6 => Ok(Self::AlreadySo),
+            7 => Ok(Self::NotClear),
+            8 => Ok(Self::OutsideLimits),
+            9 => Ok(Self::NotARegister),
+            10 => Ok(Self::OtherVersion),
+            11 => Ok(Self::CutEntry),
+            12 => Ok(Self::NoRoom),
+            14 => Ok(Self::NoSuchRow),
+            15 => Ok(Self::NotJson),
+            16 => Ok(Self::BadMember),
+            _ => Err(NoSuchRefusal(number)),
+        }
+    }
+}
+
+// In words, for whoever is refused.
+impl fmt::Display for Refusal {
+    fn fmt<W: fmt::Write>(&self, f: &mut fmt::Formatter<W>) -> fmt::Result {
+        f.write_str(match self {
+            Self::NoSuchKind => "no such kind of report",
+            Self::BadField => "a field of the report is not as its kind has it",
+            Self::NoSuchTrack => "no such track",
+            Self::NoSuchIsland => "no such island",
+            Self::NoSuchHead => "no such head",
+            Self::AlreadySo => "occupied, free, failed or not failed already",
+            Self::NotClear => "an island is occupied or a detector failed",
+            Self::OutsideLimits => "a setting is outside its limits",
+            Self::NotARegister => "not a register",
+            Self::OtherVersion => "a register of another version",
+            Self::CutEntry => "the last entry is cut",
+            Self::NoRoom => "too many entries",
+            Self::NoSuchRow => "no such row",
+            Self::NotJson => "no text of a message",
+            Self::BadMember => "a member of the message is missing, or outside its range",
+        })
+    }
+}
+
+// 0 where it is done, and otherwise what it is refused with.
+pub fn answer_number(went: Result<(), Refusal>) -> u8
+    ensures { result ≡ answered went }
+{
+    match went {
+        Ok(()) => DONE,
+        Err(refusal) => refusal.into(),
+    }
+}
 
 // ---- "The matrix printer"
 

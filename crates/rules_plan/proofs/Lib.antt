@@ -1,3 +1,4 @@
+pub mod Answered
 pub mod Computed
 pub mod WordRows
 pub mod LineRows

@@ -6,5 +6,7 @@ pub mod Lines
 pub mod Faults
 -- What is recorded of a text
 pub mod Recording
+-- The numbers and values of what the code has as enums
+pub mod Answered
 -- What tries it
 pub mod rows

@@ -12,7 +12,10 @@ use lib.ListN.{drop, length, length-drop, take}
 use Rattle.digits.proofs.Counted.{no_digit, ours_up_to}
 use Rattle.json_reader.proofs.Nested.{scalar_value}
 use Rattle.json_reader.proofs.Places.{first_behind, taken_in_text}
-use Rattle.rules.specs.Screen.{number_after, number_of, number_text, or_else, our_number, provided}
+use Rattle.json_reader.proofs.Read.{none_read, some_read}
+use Rattle.json_reader.specs.Places.{past}
+use Rattle.std.specs.Prelude.{None, Some}
+use Rattle.rules.specs.Screen.{and_then, number_after, number_of, number_text, our_number, provided}
 use Rattle.rules.specs.Words.{any}
 use Rattle.rules_json.specs.Grammar.{digit}
 use Rattle.rules_json.specs.Reader.{at, number_size, scalar_said, scalar_size, value_said, value_size}
@@ -88,14 +91,14 @@ module _ (s : List ℕ) (h : digit (at s 0) ≡ true) where
 
 -- a value's number, up to a most
 pub number_up_to : (most deep : ℕ) (s : List ℕ) → most ≤ 65535
-    → number_of most (value_said (suc deep) s) ≡ provided (leb (number_here s) most) (number_here s)
+    → number_of most (value_said (suc deep) s) ≡ and_then (number_here s) (λ n. provided (leb n most) n)
 unfolding number_here
 number_up_to most deep s h = number_said_lem most deep s ∙ ours_up_to most (number_text (scalar_said s)) h
 
-module _ (text : List ℕ) (place : ℕ) where
-  pub number_none : digit (at text place) ≡ false → 65536 ≡ number_here (drop place text)
+module _ (place : ℕ) (text : List ℕ) where
+  pub number_none : digit (at text place) ≡ false → number_here (drop place text) ≡ none
   unfolding number_here
-  number_none h = sym (ap (or_else 65536) (no_number 65535 (drop place text) (ap digit (first_behind text place) ∙ h)))
+  number_none h = no_number 65535 (drop place text) (ap digit (first_behind text place) ∙ h)
 
   module _ (h : digit (at text place) ≡ true) where
     pub head_digit : digit (at (drop place text) 0) ≡ true
@@ -107,11 +110,17 @@ module _ (text : List ℕ) (place : ℕ) where
         scalar_value text place deep (apart digit _ _ h refl) (apart digit _ _ h refl)
         ∙ digit_size (drop place text) head_digit
 
-    module _ (past : ℕ) (p : past ≡ place + value_size 0 (drop place text)) where
-      sized : past ≡ place + number_size (drop place text)
-      sized = omega (arith, p, number_value_lem 0)
+    pub number_unread : None ≡ past place (value_size 0 (drop place text)) → number_here (drop place text) ≡ none
+    unfolding number_here our_number
+    number_unread e =
+        let size = sym (number_value_lem 0) ∙ none_read place (value_size 0 (drop place text)) e in
+        ap (our_number 65535) (digit_text_lem (drop place text) head_digit ∙ ap (λ n. take n (drop place text)) size)
 
-      pub number_ends : (place ≤ past) × (past ≤ length text)
+    module _ (end : ℕ) (e : Some end ≡ past place (value_size 0 (drop place text))) where
+      sized : end ≡ place + number_size (drop place text)
+      sized = omega (arith, some_read place (value_size 0 (drop place text)) end e, number_value_lem 0)
+
+      pub number_ends : (place ≤ end) × (end ≤ length text)
       number_ends = (
         omega (arith, sized),
         omega (
@@ -119,14 +128,13 @@ module _ (text : List ℕ) (place : ℕ) where
           sized,
           number_within (drop place text),
           length-drop place text,
-          taken_in_text text place digit _ refl refl h,
+          taken_in_text text place digit refl h,
         ),
       )
 
-      pub number_some : or_else 65536 (our_number 65535 (take (past - place) (drop place text)))
-          ≡ number_here (drop place text)
+      pub number_some : number_here (drop place text) ≡ our_number 65535 (take (end - place) (drop place text))
       unfolding number_here
       number_some =
-          let size : past - place ≡ number_size (drop place text) = omega (arith, sized) in
-          ap (λ n. or_else 65536 (our_number 65535 (take n (drop place text)))) size
-          ∙ ap (λ t. or_else 65536 (our_number 65535 t)) (sym (digit_text_lem (drop place text) head_digit))
+          let size : end - place ≡ number_size (drop place text) = omega (arith, sized) in
+          ap (our_number 65535)
+          (digit_text_lem (drop place text) head_digit ∙ ap (λ n. take n (drop place text)) (sym size))

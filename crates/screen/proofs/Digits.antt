@@ -1,58 +1,41 @@
 -- A track: five digits, one after the other.
 -- Assumes nothing.
 use Prim.Native.Nat.{ℕ, ◌+◌, ◌-◌, ◌≤◌, ◌<◌}
-use mathlib.Core.Bool.{Bool, cond, false, false≢true, true, ◌&&◌, ◌||◌}
+use mathlib.Core.Bool.{Bool, false, true}
 use mathlib.Core.List.{List, [], ◌∷◌, ◌++◌}
 use mathlib.Core.Option.{Option, none, some}
 use mathlib.Core.Path.{◌≡◌, ap, refl, sym, subst, ◌∙◌}
 use native.Mathlib.Numerals.{add-one}
 use native.Mathlib.Omega.{arith}
-use borrow.Author.Tests.{eq-eqb, eqb-true, le-leb, leb-true, ne_eqb}
+use borrow.Author.Tests.{eq-eqb, le-leb, leb-true, ne_eqb}
 use lib.Dec.{eqb, leb}
 use lib.ListN.{drop, length, length-set, replicate, set, take}
 use lib.Seq.{length-take-le, take_all, take-suc-set}
 use Rattle.json_reader.proofs.Bracketed.{Item}
-use Rattle.json_reader.proofs.Cases.{both, by_test, within_true}
-use Rattle.json_reader.proofs.Places.{first_behind, in_text}
-use Rattle.rules.specs.Screen.{is_there, number_of, or_else, provided}
+use Rattle.json_reader.proofs.Cases.{by_test, within_true}
+use Rattle.json_reader.proofs.Places.{first_behind}
+use Rattle.json_reader.proofs.Read.{past_some}
+use Rattle.std.specs.Prelude.{None, Some}
+use Rattle.rules.specs.Screen.{and_then, number_of, provided}
 use Rattle.rules_json.specs.Grammar.{digit}
 use Rattle.rules_json.specs.Reader.{at, blanks, number_size, value_said, value_size}
-use Rattle.screen.proofs.Counting.{apart, number_up_to, number_value_lem}
+use Rattle.screen.proofs.Counting.{number_up_to, number_value_lem}
 use Rattle.screen.proofs.Listed.{Listed, closed, given, gives_all, gives_none, gives_too_many}
 use Rattle.screen.proofs.Listed.{list_begins, list_empty, list_ends, list_on, no_list}
-use Rattle.screen.proofs.Single.{alone_at, ends_behind, number_alone, number_at, small_alone, small_begins}
-use Rattle.screen.specs.Places.{five_at, goes_on_with, number_here}
-use Rattle.screen.specs.declared.tracks.Five.{Five}
-
-abbrev pub zero-or-one? : ℕ → Bool
-zero-or-one? b = eqb b 0x30 || eqb b 0x31
-
-pub zero_or_one_lem : (b : ℕ) → zero-or-one? b ≡ true → (0x30 ≤ b) × (b ≤ 0x31)
-zero_or_one_lem b h =
-    by_test (eqb b 0x30) (λ t. (omega (arith, eqb-true b 0x30 t), omega (arith, eqb-true b 0x30 t)))
-    (λ t. let e = eqb-true b 0x31 (rw t at h) in (omega arith, omega arith))
+use Rattle.screen.proofs.Single.{alone_at, ends_behind, number_alone, number_at, number_begins, small_alone}
+use Rattle.screen.specs.Places.{five_at, five_of, goes_on_with, number_here}
 
 module _ (text : List ℕ) (start : ℕ) where
   -- the digits that the value gives
   abbrev pub five : Option (List ℕ)
   five = given (λ n. eqb n 5) 5 (number_of 1) text start
 
-  five_by : {g : Option (List ℕ)} → five ≡ g
-      → ◌≡◌ {A = Five} record {
-        past = cond (is_there g) (start + value_size 6 (drop start text)) 0;
-        digits =
-            or_else (replicate 5 0) g;
-      } (five_at text start)
+  five_by : {g : Option (List ℕ)} → five ≡ g → five_at text start ≡ five_of (start + value_size 6 (drop start text)) g
   unfolding five_at
-  five_by e =
-      ap (λ g. record {
-        past = cond (is_there g) (start + value_size 6 (drop start text)) 0;
-        digits =
-            or_else (replicate 5 0) g;
-      }) (sym e)
+  five_by e = ap (five_of (start + value_size 6 (drop start text))) e
 
-  pub no_five : five ≡ none → {r : Five} → r ≡ record { past = 0; digits = replicate 5 0 } → r ≡ five_at text start
-  no_five e q = q ∙ five_by e
+  pub no_five : five ≡ none → None ≡ five_at text start
+  no_five e = sym (five_by e)
 
   pub other_form : (at text start ≡ 0x5B → ⊥) → five ≡ none
   other_form = no_list (λ n. eqb n 5) 5 (number_of 1) text start
@@ -90,35 +73,36 @@ module _ {text : List ℕ} {start place count : ℕ} {digits : List ℕ} (d : Di
   too_many_digits h =
       gives_too_many d.listed (λ n one. ne_eqb (length (take count digits) + n) 5 (λ e. omega (arith, counted)))
 
-  by_number : {n : ℕ} → number_here (drop place text) ≡ n
-      → number_of 1 (value_said 5 (drop place text)) ≡ provided (leb n 1) n
-  by_number e = number_up_to 1 4 (drop place text) (omega arith) ∙ ap (λ n. provided (leb n 1) n) e
-
   abbrev here : List ℕ
   here = drop place text
 
-  -- a number that is at most 1 stands there, or the value is of another form
-  by_size : (number_here here ≤ 1 → five text start ≡ none) → five text start ≡ none
-  by_size f =
-      by_test (leb (number_here here) 1) (λ t. f (leb-true (number_here here) 1 t))
-      (λ t. gives_none d.listed (by_number refl ∙ ap (λ t. provided t (number_here here)) t))
+  by_number : {n : Option ℕ} → number_here here ≡ n
+      → number_of 1 (value_said 5 here) ≡ and_then n (λ n. provided (leb n 1) n)
+  by_number e = number_up_to 1 4 here (omega arith) ∙ ap (λ n. and_then n (λ n. provided (leb n 1) n)) e
 
-  pub other_digit : (found : ℕ) → found ≡ at text place → zero-or-one? found ≡ false → five text start ≡ none
-  other_digit found is h =
-      by_size (λ small. let first = small_begins here small in absurd (omega (
-        arith,
-        within_true 0x30 0x39 (at here 0) first,
-        first_behind text place,
-        number_alone here first (small_alone here small),
-        apart zero-or-one? 0x30 found refl h,
-        apart zero-or-one? 0x31 found refl h,
-      )))
+  -- a number that is at most 1 stands there, or the value is of another form
+  by_size : ((n : ℕ) → number_here here ≡ some n → n ≤ 1 → five text start ≡ none) → five text start ≡ none
+  by_size f = by_form (number_here here) refl
+    where
+      by_form : (o : Option ℕ) → number_here here ≡ o → five text start ≡ none
+      by_form none e = gives_none d.listed (by_number e)
+      by_form (some n) e =
+          by_test (leb n 1) (λ t. f n e (leb-true n 1 t))
+          (λ t. gives_none d.listed (by_number e ∙ ap (λ t. provided t n) t))
+
+  pub other_digit : (at text place ≡ 0x30 → ⊥) → (at text place ≡ 0x31 → ⊥) → five text start ≡ none
+  other_digit h k =
+      by_size (λ n is small.
+      let first = number_begins here n is in
+      let value : some (at here 0 - 48) ≡ some n = sym (number_alone here first (small_alone here n is small)) ∙ is in
+      let same : at here 0 - 48 ≡ n = cc in
+      absurd (omega (arith, within_true 0x30 0x39 (at here 0) first, first_behind text place)))
 
 -- A digit was read at a place, and an octet behind it and its blanks.
 pub record DigitRead (text : List ℕ) (start place : ℕ) (digits : List ℕ) (count found next octet : ℕ) : Type 0 where
   pub so_far : Digits text start place digits count
   pub found_is : found ≡ at text place
-  pub small : zero-or-one? found ≡ true
+  pub small : (0x30 ≤ found) × (found ≤ 0x31)
   pub less : count < 5
   pub skips : next ≡ place + 1 + blanks (drop (place + 1) text)
   pub octet_is : octet ≡ at text next
@@ -136,8 +120,7 @@ module _ {text : List ℕ} {start place : ℕ} {digits : List ℕ} {count found 
 
   begins : digit (at text place) ≡ true
   begins =
-      let (least, most) = zero_or_one_lem found r.small in
-      ap digit (sym r.found_is) ∙ rw (le-leb 0x30 found least, le-leb found 0x39 (omega arith))
+      ap digit (sym r.found_is) ∙ rw (le-leb 0x30 found r.small.0, le-leb found 0x39 (omega (arith, r.small)))
 
   with_digit : take (count + 1) with ≡ had ++ (found - 48) ∷ []
   with_digit =
@@ -148,15 +131,15 @@ module _ {text : List ℕ} {start place : ℕ} {digits : List ℕ} {count found 
   module _ (one : number_size (drop place text) ≡ 1) where
     digit_is : number_of 1 (value_said 5 (drop place text)) ≡ some (found - 48)
     digit_is =
-        by_number r.so_far (number_at text place begins one ∙ ap (λ b. b - 48) (sym r.found_is))
-        ∙ ap (λ t. provided t (found - 48)) (le-leb (found - 48) 1 (omega (arith, zero_or_one_lem found r.small)))
+        by_number r.so_far (number_at place text begins one ∙ ap (λ b. some (b - 48)) (sym r.found_is))
+        ∙ ap (λ t. provided t (found - 48)) (le-leb (found - 48) 1 (omega (arith, r.small)))
 
     digit_item : Item (value_size 5) text place next octet
     digit_item =
         record {
-          past = place + 1;
-          some = λ e. omega arith;
-          size = omega (arith, one, number_value_lem text place begins 5);
+          end = place + 1;
+          read = sym (past_some place (λ z. omega (arith, one, number_value_lem place text begins 5))
+              (omega (arith, one, number_value_lem place text begins 5)));
           skips = r.skips;
           octet = r.octet_is;
         }
@@ -168,7 +151,7 @@ module _ {text : List ℕ} {start place : ℕ} {digits : List ℕ} {count found 
         ∙ ap (λ t. provided t (had ++ (found - 48) ∷ [])) (ap (λ n. eqb (n + 1) 5) (counted r.so_far) ∙ e)
 
   alone : goes_on_with octet ≡ false → number_size (drop place text) ≡ 1
-  alone h = alone_at text place begins (ends_behind text (place + 1) next octet r.skips r.octet_is h)
+  alone h = alone_at place text begins (ends_behind text (place + 1) next octet r.skips r.octet_is h)
 
   pub digit_on : octet ≡ 0x2C → {after : ℕ} → after ≡ next + 1 + blanks (drop (next + 1) text)
       → Digits text start after with (count + 1)
@@ -182,32 +165,22 @@ module _ {text : List ℕ} {start place : ℕ} {digits : List ℕ} {count found 
             (list_on listed (digit_is one) (digit_item one) c after q);
       }
 
-  -- whether the fifth digit closes the list
-  abbrev last? : Bool
-  last? = eqb (count + 1) 5 && eqb octet 0x5D
-
-  pub not_last : (octet ≡ 0x2C → ⊥) → last? ≡ false → five text start ≡ none
+  -- behind the fifth digit stands the bracket, and behind another a comma
+  pub not_last : (octet ≡ 0x2C → ⊥) → (octet ≡ 0x5D → count + 1 ≡ 5 → ⊥) → five text start ≡ none
   not_last c h =
-      by_size r.so_far (λ small.
-      let one = small_alone (drop place text) small in
+      by_size r.so_far (λ n is small.
+      let one = small_alone (drop place text) n is small in
       let bracket = closed listed (digit_item one) c in
-      given_by one c false (ne_eqb (count + 1) 5 (λ e.
-      false≢true (sym h ∙ (λ i. eq-eqb (count + 1) 5 e i && eq-eqb octet 0x5D bracket i)))))
+      given_by one c false (ne_eqb (count + 1) 5 (h bracket)))
 
-  pub next_within : (octet ≡ 0 → ⊥) → next < length text
-  next_within h = in_text text next (λ z. h (r.octet_is ∙ z))
-
-  module _ (h : last? ≡ true) where
-    pub bracket : octet ≡ 0x5D
-    bracket = eqb-true octet 0x5D (both (eqb (count + 1) 5) (eqb octet 0x5D) h).1
-
-    pub all_digits : ◌≡◌ {A = Five} record { past = next + 1; digits = with } (five_at text start)
+  module _ (bracket : octet ≡ 0x5D) (fifth : count + 1 ≡ 5) where
+    pub all_digits : Some (record { past = next + 1; digits = with }) ≡ five_at text start
     all_digits =
         let one = alone (ap goes_on_with bracket) in
         let no_comma : octet ≡ 0x2C → ⊥ = λ c. omega (arith, bracket) in
-        let fifth = (both (eqb (count + 1) 5) (eqb octet 0x5D) h).0 in
         let long : length with ≤ count + 1 =
-        omega (arith, length-set digits count (found - 48), r.so_far.long, eqb-true (count + 1) 5 fifth) in
-        (λ i. record { past = list_ends listed (digit_is one) (digit_item one) no_comma i; digits = with })
-        ∙ five_by text start
-        (given_by one no_comma true fifth ∙ ap some (sym with_digit ∙ take_all (count + 1) with long))
+        omega (arith, length-set digits count (found - 48), r.so_far.long) in
+        (λ i. Some (record { past = list_ends listed (digit_is one) (digit_item one) no_comma i; digits = with }))
+        ∙ sym (five_by text start
+        (given_by one no_comma true (eq-eqb (count + 1) 5 fifth)
+        ∙ ap some (sym with_digit ∙ take_all (count + 1) with long)))

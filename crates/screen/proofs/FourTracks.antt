@@ -1,7 +1,7 @@
 -- One to four tracks, one after the other.
 -- Assumes nothing.
 use Prim.Native.Nat.{ℕ, zero, suc, ◌+◌, ◌-◌, ◌*◌, ◌≤◌, ◌<◌}
-use mathlib.Core.Bool.{cond, false, true, ◌&&◌}
+use mathlib.Core.Bool.{false, true, ◌&&◌}
 use mathlib.Core.List.{List, [], ◌∷◌, ◌++◌, append_assoc, append-nil}
 use mathlib.Core.Option.{Option, none, some}
 use mathlib.Core.Path.{◌≡◌, ap, refl, sym, ◌∙◌}
@@ -9,19 +9,22 @@ use native.Mathlib.Nat.{suc-add, zero-add}
 use native.Mathlib.Omega.{arith}
 use borrow.Author.Tests.{eqb-true, le-leb, lt-leb}
 use lib.Dec.{eqb}
-use lib.ListN.{drop, length, length-append, replicate}
-use lib.Seq.{drop-append-add, take-append_seam}
+use borrow.Rule.Slice.PartMut.{put_mid}
+use lib.ListN.{drop, length, length-append, replicate, take}
+use lib.Seq.{drop-append-add, take-append_seam, take_all}
+use Rattle.std.proofs.lemmas.Slice.{put_mid-paste}
 use Rattle.json_reader.proofs.Bracketed.{Item}
-use Rattle.rules.specs.Screen.{is_there, number_of, or_else, padded, provided, track_of, tracks_fit, tracks_of}
+use Rattle.json_reader.proofs.Read.{past_some}
+use Rattle.std.specs.Prelude.{None, Some}
+use Rattle.rules.specs.Screen.{number_of, padded, provided, track_of, tracks_fit, tracks_of}
 use Rattle.rules.specs.Words.{put}
 use Rattle.rules_json.specs.Grammar.{joined}
 use Rattle.rules_json.specs.Reader.{at, blanks, value_said, value_size}
 use Rattle.screen.proofs.Gathering.{as_many}
 use Rattle.screen.proofs.Listed.{Listed, given, gives_all, gives_none, gives_too_many, list_begins, list_empty}
 use Rattle.screen.proofs.Listed.{list_on, no_list, value_there}
-use Rattle.screen.specs.Places.{five_at, shown_of}
+use Rattle.screen.specs.Places.{five_at, five_of, shown_of}
 use Rattle.screen.specs.declared.tracks.Five.{Five}
-use Rattle.screen.specs.declared.tracks.Shown.{Shown}
 
 -- ---- digits
 
@@ -44,6 +47,15 @@ padded_on x y h =
     ∙ ap (λ l. x ++ (y ++ l)) (zeros_left (length y) rest)
     ∙ sym (append_assoc x y (replicate rest 0))
 
+-- a part of the digits is written over with as many
+pub written_over : (at n : ℕ) (digits part five : List ℕ) → part ≡ five → n ≡ length five
+    → put_mid at n digits part ≡ put at five digits
+written_over at n digits part five e l =
+    put_mid-paste at n digits part five n e refl l
+    ∙ ap (λ x. take at digits ++ x ++ drop (at + n) digits) (take_all n five (omega arith))
+    ∙ append_assoc (take at digits) five (drop (at + n) digits)
+    ∙ ap (λ k. take at digits ++ (five ++ drop (at + k) digits)) l
+
 -- ---- how many
 
 rows_fit : (n : ℕ) → 1 ≤ n → n ≤ 4 → tracks_fit n ≡ true
@@ -62,10 +74,8 @@ module _ (text : List ℕ) (start : ℕ) where
   unfolding tracks_of
   shown_by e = ap shown_of (sym e)
 
-  pub none_shown : four ≡ none → {r : Shown} → r ≡ record { count = 0; digits = replicate 20 0 }
-      → r ≡ shown_of (tracks_of (value_said 7 (drop start text)))
-  unfolding shown_of
-  none_shown e q = q ∙ shown_by e
+  pub none_shown : four ≡ none → None ≡ shown_of (tracks_of (value_said 7 (drop start text)))
+  none_shown e = shown_by e
 
   pub other_form : (at text start ≡ 0x5B → ⊥) → four ≡ none
   other_form = no_list tracks_fit 6 track_of text start
@@ -107,88 +117,76 @@ module _ {text : List ℕ} {start place count : ℕ} {digits : List ℕ} (d : Ro
   pub too_many_rows : 4 ≤ count → four text start ≡ none
   too_many_rows h = gives_too_many d.listed (λ n one. rows_over (length d.had + n) (omega (arith, d.counted)))
 
-  module _ (five : Five) (is : five ≡ five_at text place) where
-    past_is : five.past ≡ cond (is_there (track_of (value_said 6 (drop place text))))
-        (place + value_size 6 (drop place text)) 0
-    unfolding five_at
-    past_is = ap (λ (f : Five). f.past) is
+  pub other_row : None ≡ five_at text place → four text start ≡ none
+  unfolding five_at
+  other_row e = gives_none d.listed (by_form _ e)
+    where
+      by_form : (t : Option (List ℕ)) → None ≡ five_of (place + value_size 6 (drop place text)) t → t ≡ none
+      by_form none e = refl
+      by_form (some x) e = absurd (cc)
 
-    digits_are : five.digits ≡ or_else (replicate 5 0) (track_of (value_said 6 (drop place text)))
+  module _ (five : Five) (is : Some five ≡ five_at text place) (less : count < 4) where
+    row_is : (track_of (value_said 6 (drop place text)) ≡ some five.digits)
+        × (five.past ≡ place + value_size 6 (drop place text))
     unfolding five_at
-    digits_are = ap (λ (f : Five). f.digits) is
-
-    pub other_row : five.past ≡ 0 → four text start ≡ none
-    other_row h = gives_none d.listed (by_form _ past_is)
+    row_is = by_form _ is
       where
-        by_form : (t : Option (List ℕ)) → five.past ≡ cond (is_there t) (place + value_size 6 (drop place text)) 0
-            → t ≡ none
-        by_form none e = refl
-        by_form (some x) e = absurd (row_there (omega arith))
+        by_form : (t : Option (List ℕ)) → Some five ≡ five_of (place + value_size 6 (drop place text)) t
+            → (t ≡ some five.digits) × (five.past ≡ place + value_size 6 (drop place text))
+        by_form none e = absurd (cc)
+        by_form (some x) e =
+            let f : five ≡ record { past = place + value_size 6 (drop place text); digits = x } = cc in
+            (ap some (sym (ap (λ (f : Five). f.digits) f)), ap (λ (f : Five). f.past) f)
 
-    module _ (there : five.past ≡ 0 → ⊥) (less : count < 4) where
-      row_is : (track_of (value_said 6 (drop place text)) ≡ some five.digits)
-          × (five.past ≡ place + value_size 6 (drop place text))
-      row_is = by_form _ past_is digits_are
-        where
-          by_form : (t : Option (List ℕ)) → five.past ≡ cond (is_there t) (place + value_size 6 (drop place text)) 0
-              → five.digits ≡ or_else (replicate 5 0) t
-              → (t ≡ some five.digits) × (five.past ≡ place + value_size 6 (drop place text))
-          by_form none e q = absurd (there e)
-          by_form (some x) e q = (ap some (sym q), e)
+    pub long : length five.digits ≡ 5
+    long = eqb-true (length five.digits) 5
+        (as_many (λ n. eqb n 5) (number_of 1) (value_said 6 (drop place text)) five.digits row_is.0)
 
-      long : length five.digits ≡ 5
-      long = eqb-true (length five.digits) 5
-          (as_many (λ n. eqb n 5) (number_of 1) (value_said 6 (drop place text)) five.digits row_is.0)
+    with_row : {next : List ℕ} → next ≡ put (5 * count) five.digits digits
+        → next ≡ padded (joined (d.had ++ five.digits ∷ []))
+    with_row e =
+        e
+        ∙ (λ i. put (sym d.wide i) five.digits (d.shown i))
+        ∙ padded_on (joined d.had) five.digits (omega (arith, d.wide, long))
+        ∙ ap padded (sym (joined_on d.had five.digits))
 
-      with_row : {next : List ℕ} → next ≡ put (5 * count) five.digits digits
-          → next ≡ padded (joined (d.had ++ five.digits ∷ []))
-      with_row e =
-          e
-          ∙ (λ i. put (sym d.wide i) five.digits (d.shown i))
-          ∙ padded_on (joined d.had) five.digits (omega (arith, d.wide, long))
-          ∙ ap padded (sym (joined_on d.had five.digits))
+    module _ {digits_next : List ℕ} (w : digits_next ≡ put (5 * count) five.digits digits) {next octet : ℕ}
+        (q : next ≡ five.past + blanks (drop five.past text)) (o : octet ≡ at text next) where
+      row_item : Item (value_size 6) text place next octet
+      row_item = record {
+        end = five.past;
+        read = sym (past_some place row_there row_is.1);
+        skips = q;
+        octet = o;
+      }
 
-      module _ {digits_next : List ℕ} (w : digits_next ≡ put (5 * count) five.digits digits) {next octet : ℕ}
-          (q : next ≡ five.past + blanks (drop five.past text)) (o : octet ≡ at text next) where
-        row_item : Item (value_size 6) text place next octet
-        row_item = record {
-          past = five.past;
-          some = λ e. row_there (omega (arith, row_is.1));
-          size =
-              row_is.1;
-          skips = q;
-          octet = o;
-        }
+      one_more : length (d.had ++ five.digits ∷ []) ≡ count + 1
+      one_more = length-append d.had (five.digits ∷ []) ∙ ap (λ n. n + 1) d.counted
 
-        one_more : length (d.had ++ five.digits ∷ []) ≡ count + 1
-        one_more = length-append d.had (five.digits ∷ []) ∙ ap (λ n. n + 1) d.counted
+      pub row_on : octet ≡ 0x2C → {after : ℕ} → after ≡ next + 1 + blanks (drop (next + 1) text)
+          → Rows text start after digits_next (count + 1)
+      row_on c {after} r =
+          record {
+            had = d.had ++ five.digits ∷ [];
+            counted = one_more;
+            fits = omega arith;
+            wide = omega (
+              arith,
+              ap length (joined_on d.had five.digits),
+              length-append (joined d.had) five.digits,
+              d.wide,
+              long,
+            );
+            shown = with_row w;
+            listed = list_on d.listed row_is.0 row_item c after r;
+          }
 
-        pub row_on : octet ≡ 0x2C → {after : ℕ} → after ≡ next + 1 + blanks (drop (next + 1) text)
-            → Rows text start after digits_next (count + 1)
-        row_on c {after} r =
-            record {
-              had = d.had ++ five.digits ∷ [];
-              counted = one_more;
-              fits = omega arith;
-              wide = omega (
-                arith,
-                ap length (joined_on d.had five.digits),
-                length-append (joined d.had)
-                    five.digits,
-                d.wide,
-                long,
-              );
-              shown = with_row w;
-              listed = list_on d.listed row_is.0 row_item c after r;
-            }
-
-        module _ (c : octet ≡ 0x2C → ⊥) where
-          pub all_rows_lem : ◌≡◌ {A = Shown} record { count = count + 1; digits = digits_next }
-              (shown_of (tracks_of (value_said 7 (drop start text))))
-          unfolding shown_of
-          all_rows_lem =
-              (λ i. record { count = sym one_more i; digits = with_row w i })
-              ∙ shown_by text start
-              (gives_all d.listed row_is.0 row_item c
-              ∙ ap (λ t. provided t (d.had ++ five.digits ∷ []))
-              (rows_fit (length d.had + 1) (omega arith) (omega (arith, d.counted))))
+      pub all_rows_lem : (octet ≡ 0x2C → ⊥)
+          → Some (record { count = count + 1; digits = digits_next })
+          ≡ shown_of (tracks_of (value_said 7 (drop start text)))
+      all_rows_lem c =
+          (λ i. Some (record { count = sym one_more i; digits = with_row w i }))
+          ∙ shown_by text start
+          (gives_all d.listed row_is.0 row_item c
+          ∙ ap (λ t. provided t (d.had ++ five.digits ∷ []))
+          (rows_fit (length d.had + 1) (omega arith) (omega (arith, d.counted))))

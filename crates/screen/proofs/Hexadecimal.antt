@@ -1,7 +1,7 @@
 -- Hexadecimal digits of either case: each way through `stands_for`, and four of them that say a number of ASCII.
 -- Assumes nothing.
 use Prim.Native.Nat.{ℕ, ◌+◌, ◌-◌, ◌*◌, ◌/◌, ◌%◌, ◌≤◌, ◌<◌}
-use mathlib.Core.Bool.{Bool, cond, false, false≢true, true, ◌&&◌, ◌||◌}
+use mathlib.Core.Bool.{Bool, cond, false, true, ◌&&◌, ◌||◌}
 use mathlib.Core.List.{List}
 use mathlib.Core.Path.{◌≡◌, ap, refl, subst, sym, ◌∙◌}
 use native.Mathlib.Omega.{arith}
@@ -93,18 +93,6 @@ module _ (b n : ℕ) where
       back (upper k j e) = ap (λ t. t || eqb b (0x61 + (n - 10))) (eq-eqb b (0x41 + (n - 10)) e)
       back (lower k j e) =
           (λ i. ne_eqb b (0x41 + (n - 10)) (λ z. omega arith) i || eq-eqb b (0x61 + (n - 10)) e i)
-
--- ---- what it tells of an octet that was found
-
-module _ {found b : ℕ} {r : Bool} (n : ℕ) (f : found ≡ b) (e : r ≡ stands_for found n) where
-  tells : r ≡ stands_for b n
-  tells = e ∙ ap (λ k. stands_for k n) f
-
-  pub is_digit : r ≡ true → stands_for b n ≡ true
-  is_digit h = sym tells ∙ h
-
-  pub not_digit : r ≡ false → stands_for b n ≡ true → ⊥
-  not_digit h s = false≢true (sym h ∙ tells ∙ s)
 
 -- ---- four digits that say a number of ASCII
 

@@ -10,6 +10,7 @@ use lib.Dec.{eqb}
 use lib.ListN.{drop, length, length-drop}
 use Rattle.json_reader.proofs.Bracketed.{Item, Walking, after_is, another_step, first_item, last_step, opened, turning}
 use Rattle.json_reader.proofs.Places.{text_behind}
+use Rattle.std.specs.Prelude.{Option}
 use Rattle.rules_json.specs.Reader.{at, blanks, bracketed_said, item_step, opening}
 use Rattle.screen.proofs.Telling.{told, told_enough, unrolled}
 
@@ -48,8 +49,8 @@ module _ {A : Type 0} (close : ℕ) (item : List ℕ → ℕ) (says : List ℕ �
       (text_behind text start (opening head)
       ∙ ap (λ k. drop k text) (sym (opened close item text start place _ found p o refl))))
 
-module _ {A : Type 0} {close : ℕ} {item : List ℕ → ℕ} {text : List ℕ} {start whole place : ℕ} (says : List ℕ → A)
-    (w : Walking close item text start whole place) {next found : ℕ} (i : Item item text place next found) where
+module _ {A : Type 0} {close : ℕ} {item : List ℕ → ℕ} {text : List ℕ} {whole : Option ℕ} {place : ℕ} (says : List ℕ → A)
+    (w : Walking close item text whole place) {next found : ℕ} (i : Item item text place next found) where
   pub said_last : found ≡ close → said_from close item says text place ≡ says (drop place text) ∷ []
   unfolding said_from
   said_last e = unrolled (turning close item w.apart) (λ s. says s ∷ []) (drop place text) _ (last_step w i e)

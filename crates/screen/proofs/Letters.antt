@@ -1,23 +1,28 @@
 -- The code units of a character, and the size of a letter: what each way through the code returns.
 -- Assumes nothing.
 use Prim.Native.Nat.{ℕ, ◌+◌, ◌-◌, ◌/◌, ◌%◌, ◌≤◌}
-use mathlib.Core.Bool.{Bool, cond, false, true, ◌&&◌, ◌||◌}
+use mathlib.Core.Bool.{Bool, cond, false, false≢true, true, ◌&&◌, ◌||◌}
 use mathlib.Core.List.{List, [], ◌∷◌}
 use mathlib.Core.Logic.{⊎_elim}
 use mathlib.Core.Path.{◌≡◌, ap, refl, sym, ◌∙◌}
 use native.Mathlib.Omega.{arith}
 use borrow.Author.Tests.{eq-eqb, eqb-true, le-ltb, lt-ltb, ne_eqb}
 use lib.Dec.{eqb, leb→le, ltb}
-use lib.ListN.{length}
+use lib.ListN.{drop, length}
+use Rattle.std.specs.Bool.{then_some}
+use Rattle.std.specs.Prelude.{None, Some}
 use Rattle.json_reader.proofs.Cases.{both, by_test, good_if, within_true}
 use Rattle.json_reader.proofs.CharacterSizes.{four}
+use Rattle.json_reader.proofs.Places.{first_behind, octet_behind}
+use Rattle.json_reader.proofs.Read.{past_none, past_some}
+use Rattle.json_reader.specs.Places.{past}
 use Rattle.json_exact.proofs.Utf8.{utf8_sound}
 use Rattle.rules.specs.Screen.{same}
 use Rattle.rules_json.specs.Grammar.{escaped}
 use Rattle.rules_json.specs.Reader.{at, char_size, char_units, decoded, escape_size, utf8_size}
 use Rattle.rules_json.specs.Utf8.{utf16}
 use Rattle.screen.proofs.Hexadecimal.{Said, four_said, number, said_four}
-use Rattle.screen.specs.Letters.{is_letter, letter_size}
+use Rattle.screen.specs.Letters.{is_letter, letter_size, stands_for}
 
 -- ---- one code unit
 
@@ -198,3 +203,64 @@ module _ (b : ℕ) (letter : is_letter b ≡ true) (s : List ℕ) where
         let (are, is) = said_four b s d in
         let size : char_size s ≡ 6 = long_size u ∙ ap (λ t. cond t 6 0) are in
         own_size s b (rw (size, e, u) (ap (λ k. k ∷ []) is)) size
+
+-- ---- past a letter at a place
+
+module _ (p b : ℕ) (text : List ℕ) (letter : is_letter b ≡ true) where
+  pub letter_here : at text p ≡ b → past p (letter_size b (drop p text)) ≡ Some (p + 1)
+  letter_here h =
+      let size = stands_there b letter (drop p text) (first_behind text p ∙ h) in
+      past_some p (λ z. omega (arith, size)) (omega (arith, size))
+
+  pub letter_other : (at text p ≡ b → ⊥) → (at text p ≡ 0x5C → ⊥) → past p (letter_size b (drop p text)) ≡ None
+  letter_other h k =
+      past_none p (sym (other_there b letter (drop p text) (λ e. k (sym (first_behind text p) ∙ e))
+      (λ e. h (sym (first_behind text p) ∙ e))))
+
+  abbrev octet : ℕ → ℕ
+  octet k = at text (p + k)
+
+  -- what stands behind the escape's beginning
+  abbrev says_letter : Bool
+  says_letter =
+      eqb (octet 1) 0x75 && eqb (octet 2) 0x30 && eqb (octet 3) 0x30 && stands_for (octet 4) (b / 16)
+      && stands_for (octet 5) (b % 16)
+
+  pub letter_escaped : at text p ≡ 0x5C → past p (letter_size b (drop p text)) ≡ then_some says_letter (p + 6)
+  letter_escaped h = by_test says_letter said unsaid
+    where
+      behind : (k : ℕ) → at (drop p text) k ≡ octet k
+      behind k = octet_behind text p k
+
+      escapes : at (drop p text) 0 ≡ 0x5C
+      escapes = first_behind text p ∙ h
+
+      said : says_letter ≡ true → past p (letter_size b (drop p text)) ≡ then_some says_letter (p + 6)
+      said t =
+          let (four, t5) = both _ (stands_for (octet 5) (b % 16)) t in
+          let (three, t4) = both _ (stands_for (octet 4) (b / 16)) four in
+          let (two, t3) = both _ (eqb (octet 3) 0x30) three in
+          let (t1, t2) = both (eqb (octet 1) 0x75) (eqb (octet 2) 0x30) two in
+          let size =
+          long_escape b letter (drop p text) escapes (behind 1 ∙ eqb-true _ _ t1)
+          record {
+            first = behind 2 ∙ eqb-true _ _ t2;
+            second = behind 3 ∙ eqb-true _ _ t3;
+            third = ap (λ o. stands_for o (b / 16)) (behind 4) ∙ t4;
+            fourth = ap (λ o. stands_for o (b % 16)) (behind 5) ∙ t5;
+          } in
+          past_some p (λ z. omega (arith, size)) (omega (arith, size)) ∙ sym (ap (λ t. then_some t (p + 6)) t)
+
+      unsaid : says_letter ≡ false → past p (letter_size b (drop p text)) ≡ then_some says_letter (p + 6)
+      unsaid f =
+          past_none p (sym (other_escape b letter (drop p text) escapes
+          (λ u d. false≢true (sym f
+          ∙ (λ i. eq-eqb (octet 1) 0x75 (sym (behind 1) ∙ u) i && eq-eqb (octet 2) 0x30 (sym (behind 2) ∙ d.first) i
+          && eq-eqb (octet 3) 0x30 (sym (behind 3) ∙ d.second) i
+          && (ap (λ o. stands_for o (b / 16)) (sym (behind 4)) ∙ d.third) i
+          && (ap (λ o. stands_for o (b % 16)) (sym (behind 5)) ∙ d.fourth) i)))))
+          ∙ sym (ap (λ t. then_some t (p + 6)) f)
+
+pub ruleset letters = (letter_here, letter_other)
+
+pub ruleset escapes = (letter_escaped)

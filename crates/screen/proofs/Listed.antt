@@ -15,6 +15,9 @@ use Rattle.json_reader.proofs.Bracketed.{Item, Walking, begins, breaks, closes, 
 use Rattle.json_reader.proofs.Cases.{by_test}
 use Rattle.json_reader.proofs.Nested.{list_value}
 use Rattle.json_reader.proofs.Places.{in_text}
+use Rattle.json_reader.proofs.Read.{none_read, past_none, some_read}
+use Rattle.json_reader.specs.Places.{past}
+use Rattle.std.specs.Prelude.{None}
 use Rattle.rules.specs.Screen.{list_of, provided}
 use Rattle.rules_json.specs.Reader.{at, blanks, bracketed_said, bracketed_size, scalar_said, value_said, value_size}
 use Rattle.rules_json.specs.Tree.{Member, Tree, array, object, scalar}
@@ -49,15 +52,14 @@ module _ {B : Type 0} (how_many : ℕ → Bool) (deep : ℕ) (f : Tree deep → 
   -- What was gathered, and what is left from a place on, give what the whole gives.
   pub record Listed (had : List B) (place : ℕ) : Type 0 where
     pub taken : value_size (suc deep) (drop start text) ≡ 0 → ⊥
-    pub walking : Walking 0x5D (value_size deep) text start (value_size (suc deep) (drop start text)) place
+    pub walking : Walking 0x5D (value_size deep) text (past start (value_size (suc deep) (drop start text))) place
     pub gives : outcome how_many f had (values_from place) ≡ given
 
   module _ (is : at text start ≡ 0x5B) (place found : ℕ) (p : place ≡ start + 1 + blanks (drop (start + 1) text))
       (o : found ≡ at text place) where
     list_size : value_size (suc deep) (drop start text) ≡ bracketed_size 0x5D (value_size deep) (drop start text)
     list_size =
-        list_value text start (suc deep) (λ z. omega arith) is
-        ∙ ap (λ d. bracketed_size 0x5D (value_size d) (drop start text)) (sub-one (suc deep))
+        list_value text start (suc deep) deep (omega arith, sym (sub-one (suc deep))) is
 
     pub list_empty : found ≡ 0x5D → how_many 0 ≡ false → given ≡ none
     list_empty e n =
@@ -80,8 +82,12 @@ module _ {B : Type 0} (how_many : ℕ → Bool) (deep : ℕ) (f : Tree deep → 
 module _ {B : Type 0} {how_many : ℕ → Bool} {deep : ℕ} {f : Tree deep → Option B} {text : List ℕ} {start : ℕ}
     {had : List B} {place : ℕ}
     (l : Listed how_many deep f text start had place) where
+  -- the whole is there
+  whole_there : None ≡ past start (value_size (suc deep) (drop start text)) → ⊥
+  whole_there e = l.taken (none_read start (value_size (suc deep) (drop start text)) e)
+
   pub value_there : value_size deep (drop place text) ≡ 0 → ⊥
-  value_there e = l.taken (omega (arith, no_item l.walking (omega arith)))
+  value_there e = whole_there (no_item l.walking (sym (past_none place e)))
 
   pub gives_none : f (value_said deep (drop place text)) ≡ none → given how_many deep f text start ≡ none
   gives_none e =
@@ -95,7 +101,7 @@ module _ {B : Type 0} {how_many : ℕ → Bool} {deep : ℕ} {f : Tree deep → 
   -- behind a value a comma or the bracket stands
   pub closed : {next found : ℕ} → Item (value_size deep) text place next found → (found ≡ 0x2C → ⊥) → found ≡ 0x5D
   closed {found = found} i h = by_test (eqb found 0x5D) (eqb-true found 0x5D)
-      (λ t. absurd (l.taken (omega (arith, breaks l.walking i (eqb-false found 0x5D t) h))))
+      (λ t. absurd (whole_there (breaks l.walking i (eqb-false found 0x5D t) h)))
 
   module _ {y : B} (e : f (value_said deep (drop place text)) ≡ some y) {next found : ℕ}
       (i : Item (value_size deep) text place next found) where
@@ -112,7 +118,7 @@ module _ {B : Type 0} {how_many : ℕ → Bool} {deep : ℕ} {f : Tree deep → 
         }
 
     pub list_ends : (found ≡ 0x2C → ⊥) → next + 1 ≡ start + value_size (suc deep) (drop start text)
-    list_ends h = closes l.walking i (closed i h)
+    list_ends h = (some_read start _ (next + 1) (closes l.walking i (closed i h))).0
 
     pub gives_all : (found ≡ 0x2C → ⊥)
         → given how_many deep f text start ≡ provided (how_many (length had + 1)) (had ++ y ∷ [])

@@ -1,24 +1,25 @@
 -- The message of a station, as the code works it out.
 -- Assumes nothing.
-use Prim.Native.Nat.{ℕ, zero, suc, ◌≤◌}
+use Prim.Native.Nat.{ℕ, zero, suc, ◌+◌, ◌-◌, ◌*◌, ◌≤◌, ◌<◌}
+use native.Mathlib.Nat.{suc-add, zero-add}
 use native.Mathlib.Omega.{arith}
-use mathlib.Core.Path.{◌≡◌, refl, sym, ap, subst, ◌∙◌}
+use mathlib.Core.Path.{◌≡◌, refl, sym, ap, ◌∙◌}
 use mathlib.Core.Bool.{Bool, true, false, cond}
-use mathlib.Core.List.{List, [], ◌++◌, map}
+use mathlib.Core.List.{List, [], ◌∷◌, ◌++◌, append_assoc, append-nil, map}
 use borrow.Author.Tests.{leb-true}
-use lib.Dec.{ltb}
-use lib.ListN.{get_or, length, replicate, take}
+use lib.ListN.{drop, get_or, length, length-append, replicate, take}
+use lib.Seq.{drop-append-add, length-take-le, take-append_seam}
 use Rattle.chains.proofs.Chains.{both}
-use Rattle.islands.proofs.Listed.{listed, tabulate}
 use Rattle.rules.specs.Aspect.{aspect_of}
 use Rattle.rules.specs.Screen.{message_of, padded, track_digits}
-use Rattle.rules.specs.Station.{free_track, live, track_at, within_limits}
+use Rattle.rules.specs.Station.{live, within_limits}
 use Rattle.rules.specs.declared.Message.{Message}
 use Rattle.rules.specs.declared.Settings.{Settings}
 use Rattle.rules.specs.declared.Station.{Station}
 use Rattle.rules.specs.declared.Track.{Track}
 use Rattle.rules_json.specs.Grammar.{joined}
-use Rattle.text.proofs.Placing.{Told, filled}
+use Rattle.rules.specs.Words.{put}
+use Rattle.std.proofs.lemmas.List.{map_more}
 
 -- what holds of one to four holds of a number within these
 pub of_one_to_four : (P : ℕ → Type 0) (n : ℕ) → 1 ≤ n → n ≤ 4 → P 1 → P 2 → P 3 → P 4 → P n
@@ -31,22 +32,6 @@ of_one_to_four P (suc (suc (suc (suc (suc n))))) h k a b c d = let z : ⊥ = ome
 
 -- ---- the digits
 
-abbrev shown : ℕ → List Track → ℕ → List ℕ
-shown n tracks a = cond (ltb a n) (track_digits (get_or tracks a free_track)) (replicate 5 0)
-
-abbrev all_shown : ℕ → List Track → List ℕ
-all_shown n tracks = shown n tracks 0 ++ shown n tracks 1 ++ shown n tracks 2 ++ shown n tracks 3 ++ []
-
-abbrev Shown : ℕ → List Track → Type 0
-Shown n tracks =
-    (length (all_shown n tracks) ≡ 20) × (all_shown n tracks ≡ padded (joined (map track_digits (take n tracks))))
-
-all_shown_lem : (n : ℕ) (tracks : List Track) → 1 ≤ n → n ≤ 4 → length tracks ≡ 4 → Shown n tracks
-all_shown_lem n tracks h k four =
-    subst (λ (l : List Track). Shown n l) (sym (listed free_track tracks 4 four))
-    (of_one_to_four (λ m. Shown m (tabulate 4 (λ a. get_or tracks a free_track))) n h k
-    (refl, refl) (refl, refl) (refl, refl) (refl, refl))
-
 pub tracks_within : (c : Settings) → within_limits c ≡ true → (1 ≤ c.tracks) × (c.tracks ≤ 4)
 unfolding within_limits
 tracks_within c e =
@@ -56,26 +41,48 @@ tracks_within c e =
     let limits = both _ _ tracks in
     (leb-true 1 c.tracks limits.0, leb-true c.tracks 4 limits.1)
 
-module _ (s : Station) (four : length s.tracks ≡ 4) (good : within_limits s.settings ≡ true) where
-  abbrev due : ℕ → List ℕ
-  due a = cond (ltb a s.settings.tracks) (track_digits (track_at s a)) (replicate 5 0)
+-- one track more
+pub joined_on : (had : List (List ℕ)) (y : List ℕ) → joined (had ++ y ∷ []) ≡ joined had ++ y
+joined_on [] y = append-nil y
+joined_on (x ∷ had) y = ap (λ l. x ++ l) (joined_on had y) ∙ sym (append_assoc x (joined had) y)
 
-  whole : Shown s.settings.tracks s.tracks
-  whole = let n = tracks_within s.settings good in all_shown_lem s.settings.tracks s.tracks n.0 n.1 four
+zeros_left : (n m : ℕ) → drop n (replicate {A = ℕ} (n + m) 0) ≡ replicate m 0
+zeros_left zero m = ap (λ k. replicate k 0) (zero-add m)
+zeros_left (suc n) m = ap (λ k. drop (suc n) (replicate k 0)) (suc-add n m) ∙ zeros_left n m
 
-  -- the digits of the four tracks one after the other, in a buffer that they fill
-  pub four_tracks_lem : {first second third fourth b' : List ℕ} {r : ℕ}
-      → first ≡ due 0
-      → second ≡ due 1
-      → third ≡ due 2
-      → fourth ≡ due 3
-      → Told (first ++ second ++ third ++ fourth ++ []) (replicate 20 0) r b'
-      → b' ≡ padded (joined (map track_digits (live s)))
-  unfolding track_at
-  four_tracks_lem {first} {second} {third} {fourth} e0 e1 e2 e3 told =
-      let same : first ++ second ++ third ++ fourth ++ [] ≡ due 0 ++ due 1 ++ due 2 ++ due 3 ++ [] =
-      λ i. e0 i ++ e1 i ++ e2 i ++ e3 i ++ [] in
-      filled _ _ (ap length same ∙ whole.0) told ∙ same ∙ whole.1
+-- the digits of one more track in the place of zeros
+pub padded_on : (x y : List ℕ) → length x + length y ≤ 20 → put (length x) y (padded x) ≡ padded (x ++ y)
+padded_on x y h =
+    let rest : ℕ = 20 - length (x ++ y) in
+    let zeros : List ℕ = replicate (20 - length x) 0 in
+    let size : 20 - length x ≡ length y + rest = omega (arith, length-append x y) in
+    (λ i. take-append_seam x zeros i ++ (y ++ drop-append-add x zeros (length y) i))
+    ∙ ap (λ n. x ++ (y ++ drop (length y) (replicate n 0))) size
+    ∙ ap (λ l. x ++ (y ++ l)) (zeros_left (length y) rest)
+    ∙ sym (append_assoc x y (replicate rest 0))
+
+fives_long : (l : List Track) → length (joined (map track_digits l)) ≡ 5 * length l
+fives_long [] = refl
+fives_long (t ∷ l) = omega (arith, fives_long l)
+
+-- the digits of one more track in the place of zeros
+module _ (live : List Track) (n : ℕ) (d : Track) (less : n < length live) (few : length live ≤ 4) where
+  abbrev had : List ℕ
+  had = joined (map track_digits (take n live))
+
+  abbrev next : List ℕ
+  next = track_digits (get_or live n d)
+
+  size : 5 * n ≡ length had
+  size = omega (arith, fives_long (take n live), length-take-le n live (omega arith))
+
+  pub one_more : {digits : List ℕ} → digits ≡ padded had
+      → put (5 * n) next digits ≡ padded (joined (map track_digits (take (n + 1) live)))
+  one_more e =
+      (λ i. put (size i) next (e i))
+      ∙ padded_on had next (omega (arith, size))
+      ∙ ap padded (sym (joined_on (map track_digits (take n live)) next))
+      ∙ ap (λ l. padded (joined l)) (sym (map_more track_digits live n d less))
 
 -- ---- the message
 

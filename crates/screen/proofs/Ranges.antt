@@ -1,16 +1,17 @@
 -- When a message is within its ranges, as the code tests it.
 -- Assumes nothing.
-use Prim.Native.Nat.{◌-◌, ◌*◌, ◌≤◌}
+use Prim.Native.Nat.{ℕ, zero, suc, ◌*◌, ◌≤◌, ◌<◌}
 use native.Mathlib.Omega.{arith}
-use mathlib.Core.Path.{◌≡◌, sym, ap, ◌∙◌}
-use mathlib.Core.Bool.{Bool, true, false, not, ◌&&◌}
-use borrow.Author.Tests.{le-leb, leb-true, not-true}
-use lib.Dec.{leb, ltb}
-use lib.ListN.{drop, length, length-drop, take}
-use lib.Seq.{take_all}
+use mathlib.Core.Path.{◌≡◌, refl, sym, ap, ◌∙◌}
+use mathlib.Core.Bool.{Bool, true, false, ◌||◌, false≢true, or-true}
+use mathlib.Core.List.{List, [], ◌∷◌}
+use borrow.Author.Tests.{le-ltb, leb-true, lt-ltb, not-true}
+use lib.Dec.{ltb}
+use lib.ListN.{get_or, length, take}
+use Rattle.std.proofs.Common.{Any, IsTrue, ◌↔◌}
 use Rattle.chains.proofs.Chains.{both}
 use Rattle.rules.specs.Screen.{message_fits}
-use Rattle.rules.specs.Words.{any, within}
+use Rattle.rules.specs.Words.{any}
 use Rattle.rules.specs.declared.Message.{Message}
 
 -- what a message that is has
@@ -36,38 +37,29 @@ fits_so m e =
       digits = not-true _ digits.1;
     }
 
--- the numbers that are tested first
-abbrev pub in_range : Message → Bool
-in_range m = leb m.aspect 5 && within 1 4 m.tracks
+-- ---- a digit above the most, as `any` of the library finds it
 
-pub few : (m : Message) → in_range m ≡ true → m.tracks ≤ 4
-few m e =
-    let tracks = (both (leb m.aspect 5) (within 1 4 m.tracks) e).1 in
-    leb-true m.tracks 4 (both (leb 1 m.tracks) (leb m.tracks 4) tracks).1
+module _ (most : ℕ) where
+  not-lt : {y : ℕ} → (most < y → ⊥) → y ≤ most
+  not-lt h = omega (arith, h)
 
-module _ (m : Message) (station : m.station ≤ 65535) where
-  abbrev wrong : Bool
-  wrong = any (ltb 1) (take (5 * m.tracks) m.digits)
+  some_is : (l : List ℕ) (k x : ℕ) → k < length l → get_or l k x ≡ x → most < x → any (ltb most) l ≡ true
+  some_is [] k x h e p = let z : ⊥ = omega arith in absurd z
+  some_is (y ∷ l) zero x h e p = ap (λ (b : Bool). b || any (ltb most) l) (lt-ltb most y (omega arith))
+  some_is (y ∷ l) (suc k) x h e p =
+      ap (λ (b : Bool). ltb most y || b) (some_is l k x (omega arith) e p) ∙ or-true (ltb most y)
 
-  abbrev beyond : Bool
-  beyond = any (ltb 0) (drop (5 * m.tracks) m.digits)
+  none_is : (l : List ℕ) → (Any (λ d. most < d) l → ⊥) → any (ltb most) l ≡ false
+  none_is [] none = refl
+  none_is (y ∷ l) none =
+      (λ i. first i || any (ltb most) l)
+      ∙ none_is l (λ some. none (suc some.0, some.1, omega (arith, some.2), some.3, some.4))
+    where
+      first : ltb most y ≡ false
+      first = le-ltb most y (not-lt (λ p. none (0, y, omega arith, refl, p)))
 
-  pub as_tested : (t : Bool) → in_range m ≡ t → message_fits m ≡ t && not wrong && not beyond
-  unfolding message_fits
-  as_tested t e =
-      ap (λ (b : Bool). b && leb m.aspect 5 && within 1 4 m.tracks && not wrong && not beyond)
-      (le-leb m.station 65535 station)
-      ∙ ap (λ (b : Bool). b && not wrong && not beyond) e
-
-  pub out_of_range : in_range m ≡ false → false ≡ message_fits m
-  out_of_range e = sym (as_tested false e)
-
-  -- and then the digits, those of the tracks that are not there in a part that ends where they end
-  pub digits_tested : {w b : Bool} → in_range m ≡ true → length m.digits ≡ 20
-      → w ≡ wrong
-      → b ≡ any (ltb 0) (take (20 - 5 * m.tracks) (drop (5 * m.tracks) m.digits))
-      → not w && not b ≡ message_fits m
-  digits_tested e twenty ew eb =
-      let rest = drop (5 * m.tracks) m.digits in
-      let all = take_all (20 - 5 * m.tracks) rest (omega (arith, length-drop (5 * m.tracks) m.digits)) in
-      (λ i. not (ew i) && not ((eb ∙ ap (any (ltb 0)) all) i)) ∙ sym (as_tested true e)
+  pub some_above : (l : List ℕ) (r : Bool) → IsTrue r ↔ Any (λ d. most < d) l → r ≡ any (ltb most) l
+  some_above l true told =
+      let some = told.0 refl in
+      sym (some_is l some.0 some.1 some.2 some.3 some.4)
+  some_above l false told = sym (none_is l (λ some. false≢true (told.1 some)))

@@ -1,6 +1,6 @@
 -- Whether a string says a word of letters, letter by letter.
 -- Assumes nothing.
-use Prim.Native.Nat.{ℕ, zero, suc, ◌+◌, ◌-◌, ◌≤◌, ◌<◌}
+use Prim.Native.Nat.{ℕ, zero, suc, ◌+◌, ◌≤◌, ◌<◌}
 use mathlib.Core.Bool.{Bool, cond, false, not, or-true, true, ◌&&◌, ◌||◌}
 use mathlib.Core.List.{List, [], ◌∷◌, ◌++◌}
 use mathlib.Core.Path.{◌≡◌, ap, refl, sym, ◌∙◌}
@@ -8,12 +8,14 @@ use native.Mathlib.Numerals.{add-one}
 use native.Mathlib.Omega.{arith}
 use borrow.Author.Tests.{eq-eqb, eqb-false, eqb-true, ne_eqb, not-false}
 use lib.Dec.{eqb}
-use lib.ListN.{drop, drop_of_length-le, get_or, length, length-drop, take}
+use lib.ListN.{drop, drop_of_length-le, get_or, length, length-drop}
 use lib.Seq.{drop-cons}
-use Rattle.json_reader.proofs.Behind.{part_behind}
 use Rattle.json_reader.proofs.Cases.{by_test, within_true}
 use Rattle.json_reader.proofs.Places.{first_behind, in_text, text_behind}
 use Rattle.json_reader.proofs.Quoted.{turning}
+use Rattle.json_reader.proofs.Read.{none_read, some_read}
+use Rattle.json_reader.specs.Places.{past}
+use Rattle.std.specs.Prelude.{None, Some}
 use Rattle.json_reader.proofs.Turning.{through, through_enough, unrolled as run-unrolled}
 use Rattle.rules.specs.Screen.{same}
 use Rattle.rules.specs.Words.{any}
@@ -21,7 +23,6 @@ use Rattle.rules_json.specs.Reader.{at, char_size, char_units, fails, further, g
 use Rattle.rules_json.specs.Reader.{size_after, string_size, string_step, string_units}
 use Rattle.screen.proofs.Letters.{Coded, itself, no_letter, no_units, none_either, pair, said_letter, units}
 use Rattle.screen.proofs.Telling.{told, told_enough, unrolled}
-use Rattle.screen.proofs.Within.{char_within}
 use Rattle.screen.specs.Letters.{is_letter, letter_size}
 
 -- ---- what a string says from a text on
@@ -95,38 +96,49 @@ pub letter_of : (word : List ℕ) (letter : ℕ) → any (λ b. not (is_letter b
     → is_letter (get_or word letter 0) ≡ true
 letter_of word letter letters h = not-false _ (none_of (λ b. not (is_letter b)) word letter letters h)
 
--- ---- at a place of the head and at a letter of the word
+-- ---- at a place of the text and at a letter of the word
 
 -- What is left of the string says what is left of the word, where the whole does, and the string ends.
-pub record Saying (head word : List ℕ) (place letter : ℕ) : Type 0 where
-  pub within_head : place ≤ length head
-  pub ends : through string_step (drop place head) ≡ 0 → ⊥
-  pub agrees : same (units_from (drop place head)) (drop letter word) ≡ same (string_units head) word
+pub record Saying (text word : List ℕ) (start place letter : ℕ) : Type 0 where
+  pub ends : through string_step (drop place text) ≡ 0 → ⊥
+  pub agrees : same (units_from (drop place text)) (drop letter word) ≡ same (string_units (drop start text)) word
 
-pub says_begins : (head word : List ℕ) → (string_size head ≡ 0 → ⊥) → Saying head word 1 0
-unfolding units_from string_size string_units
-says_begins head word h =
-    record {
-      within_head = omega (arith, some);
-      ends =
-          λ z. h (ap (λ n. cond (eqb (at head 0) 0x22) (further 1 n) 0)
-          (through_enough turning (length head) (drop 1 head) (omega (arith, length-drop 1 head)) ∙ z)
-          ∙ none_either (eqb (at head 0) 0x22));
-      agrees = ap (λ us. same us word) (sym
-          (told_enough turning char_units (length head) (drop 1 head) (omega (arith, length-drop 1 head, some))));
-    }
-  where
-    some : 0 < length head
-    some = in_text head 0 (λ z. h (rw z))
+module _ (text word : List ℕ) (start : ℕ) (h : string_size (drop start text) ≡ 0 → ⊥) where
+  abbrev head : List ℕ
+  head = drop start text
 
-module _ {head word : List ℕ} {place letter : ℕ} (w : Saying head word place letter) where
+  some : 0 < length head
+  unfolding string_size
+  some = in_text head 0 (λ z. h (rw z))
+
+  pub string_within : start < length text
+  string_within = omega (arith, some, length-drop start text)
+
+  pub says_begins : Saying text word start (start + 1) 0
+  unfolding units_from string_size string_units
+  says_begins =
+      record {
+        ends =
+            λ z. h (ap (λ n. cond (eqb (at head 0) 0x22) (further 1 n) 0)
+            (through_enough turning (length head) (drop 1 head) (omega (arith, length-drop 1 head))
+            ∙ ap (through string_step) (text_behind text start 1) ∙ z)
+            ∙ none_either (eqb (at head 0) 0x22));
+        agrees = ap (λ us. same us word)
+            (ap (told string_step char_units) (sym (text_behind text start 1))
+            ∙ sym (told_enough turning char_units (length head) (drop 1 head)
+            (omega (arith, length-drop 1 head, some))));
+      }
+
+module _ {text word : List ℕ} {start place letter : ℕ} (w : Saying text word start place letter) where
   abbrev s : List ℕ
-  s = drop place head
+  s = drop place text
 
-  pub says_over : length word ≤ letter → (found : ℕ) → found ≡ at head place
-      → eqb found 0x22 ≡ same (string_units head) word
-  says_over h found e =
-      ap (λ k. eqb k 0x22) (e ∙ sym (first_behind head place)) ∙ by_octet
+  abbrev whole : Bool
+  whole = same (string_units (drop start text)) word
+
+  pub says_over : length word ≤ letter → eqb (at text place) 0x22 ≡ whole
+  says_over h =
+      ap (λ k. eqb k 0x22) (sym (first_behind text place)) ∙ by_octet
       ∙ ap (same (units_from s)) (sym (drop_of_length-le word h)) ∙ w.agrees
     where
       by_octet : eqb (at s 0) 0x22 ≡ same (units_from s) []
@@ -142,38 +154,32 @@ module _ {head word : List ℕ} {place letter : ℕ} (w : Saying head word place
     abbrev b : ℕ
     b = get_or word letter 0
 
-    by_letter : {us : List ℕ} → units_from s ≡ us → same us (b ∷ drop (suc letter) word) ≡ same (string_units head) word
+    by_letter : {us : List ℕ} → units_from s ≡ us → same us (b ∷ drop (suc letter) word) ≡ whole
     by_letter u = ap (λ us. same us (b ∷ drop (suc letter) word)) (sym u)
         ∙ ap (same (units_from s)) (sym (drop-cons word letter 0 h)) ∙ w.agrees
 
-    -- the code hands on a part
-    module _ {size : ℕ} (e : size ≡ letter_size b (take (length head - place) s)) where
-      sized : size ≡ letter_size b s
-      sized = e ∙ ap (letter_size b) (part_behind head place)
+    pub says_other : any (λ b. not (is_letter b)) word ≡ false → None ≡ past place (letter_size b s) → false ≡ whole
+    says_other letters z =
+        let most = (within_true 0x61 0x7A b (letter_of word letter letters h)).1 in
+        by_test (eqb (char_size s) 0)
+        (λ t. by_letter (none_from s (eqb-true (char_size s) 0 t)))
+        (λ t.
+        let some = eqb-false (char_size s) 0 t in
+        sym (other_unit _ _ (units s some) (omega (arith, most)) (no_letter s b (none_read place _ z)))
+        ∙ by_letter (some_from s some))
 
-      pub says_other : any (λ b. not (is_letter b)) word ≡ false → size ≡ 0 → false ≡ same (string_units head) word
-      says_other letters z =
-          let most = (within_true 0x61 0x7A b (letter_of word letter letters h)).1 in
-          by_test (eqb (char_size s) 0)
-          (λ t. by_letter (none_from s (eqb-true (char_size s) 0 t)))
-          (λ t.
-          let some = eqb-false (char_size s) 0 t in
-          sym (other_unit _ _ (units s some) (omega (arith, most)) (no_letter s b (sym sized ∙ z)))
-          ∙ by_letter (some_from s some))
-
-      pub says_on : (size ≡ 0 → ⊥) → Saying head word (place + size) (letter + 1)
-      says_on some =
-          let (alone, is) = said_letter s b (λ z. some (sized ∙ z)) in
-          let taken : size ≡ char_size s = sized ∙ is in
-          let character : char_size s ≡ 0 → ⊥ = λ z. some (taken ∙ z) in
-          let rest = units_from (drop (char_size s) s) in
-          let behind : drop (place + size) head ≡ drop (char_size s) s =
-          ap (λ n. drop (place + n) head) taken ∙ sym (text_behind head place (char_size s)) in
-          record {
-            within_head = omega (arith, taken, char_within s, length-drop place head, w.within_head);
-            ends = λ z. goes_behind s character w.ends (ap (through string_step) (sym behind) ∙ z);
-            agrees =
-                (λ i. same (units_from (behind i)) (drop (add-one letter i) word))
-                ∙ sym (ap (λ t. t && same rest (drop (suc letter) word)) (eq-eqb b b refl))
-                ∙ by_letter (some_from s character ∙ ap (λ us. us ++ rest) alone);
-          }
+    pub says_on : (next : ℕ) → Some next ≡ past place (letter_size b s) → Saying text word start next (letter + 1)
+    says_on next e =
+        let (size, some) = some_read place (letter_size b s) next e in
+        let (alone, is) = said_letter s b some in
+        let character : char_size s ≡ 0 → ⊥ = λ z. some (is ∙ z) in
+        let rest = units_from (drop (char_size s) s) in
+        let behind : drop next text ≡ drop (char_size s) s =
+        ap (λ n. drop n text) (omega (arith, size, is)) ∙ sym (text_behind text place (char_size s)) in
+        record {
+          ends = λ z. goes_behind s character w.ends (ap (through string_step) (sym behind) ∙ z);
+          agrees =
+              (λ i. same (units_from (behind i)) (drop (add-one letter i) word))
+              ∙ sym (ap (λ t. t && same rest (drop (suc letter) word)) (eq-eqb b b refl))
+              ∙ by_letter (some_from s character ∙ ap (λ us. us ++ rest) alone);
+        }

@@ -21,6 +21,7 @@ use Rattle.screen.proofs.Messages.{of_one_to_four}
 use Rattle.screen.proofs.Ranges.{Fits, fits_so}
 use Rattle.screen.specs.Texts.{digit_text, track_text, track_texts}
 use Rattle.text.proofs.Decimals.{decimal_digit}
+use Rattle.std.specs.Prelude.{Option}
 use Rattle.text.proofs.Placing.{Told, filled}
 
 -- ---- the tracks
@@ -66,31 +67,30 @@ cut digits n twenty h k =
     (of_one_to_four (Cut (tabulate 20 (λ a. get_or digits a 0))) n h k
     (refl, refl) (refl, refl) (refl, refl) (refl, refl))
 
--- four tracks one after the other, in a buffer that they fill
+-- four tracks one after the other
 pub four_texts : (digits : List ℕ) → length digits ≡ 20 → length (track_texts digits) ≡ 48
 unfolding track_texts track_text
 four_texts digits twenty =
     subst (λ (l : List ℕ). length (track_texts l) ≡ 48) (sym (each-listed 0 digits 20 twenty)) refl
 
-pub four_filled : (digits : List ℕ) {first second third fourth b' : List ℕ} {r : ℕ} → length digits ≡ 20
+regroup : (a b c d : List ℕ) → a ++ (b ++ (c ++ (d ++ []))) ≡ a ++ b ++ c ++ d
+regroup a b c d = simp (append_assoc, append-nil)
+
+-- in a buffer that they fill
+pub four_filled : (digits : List ℕ) {first second third fourth b' : List ℕ} {r : Option ℕ} → length digits ≡ 20
     → first ≡ track_text 91 (take 5 digits)
     → second ≡ track_text 44 (take 5 (drop 5 digits))
     → third ≡ track_text 44 (take 5 (drop 10 digits))
     → fourth ≡ track_text 44 (take 5 (drop 15 digits))
-    → Told (first ++ second ++ third ++ fourth ++ []) (replicate 48 0) r b'
+    → Told (first ++ (second ++ (third ++ (fourth ++ [])))) (replicate 48 0) r b'
     → b' ≡ track_texts digits
 unfolding track_texts
 four_filled digits {first} {second} {third} {fourth} twenty e0 e1 e2 e3 told =
-    let same : first ++ second ++ third ++ fourth ++ [] ≡ track_texts digits =
-    append-nil _ ∙ (λ i. e0 i ++ e1 i ++ e2 i ++ e3 i) in
+    let same : first ++ (second ++ (third ++ (fourth ++ []))) ≡ track_texts digits =
+    regroup first second third fourth ∙ (λ i. e0 i ++ e1 i ++ e2 i ++ e3 i) in
     filled _ _ (ap length same ∙ four_texts digits twenty) told ∙ same
 
 -- ---- the whole
-
-regroup : (a d b c t : List ℕ) (x y z : ℕ)
-    → a ++ d ++ (b ++ (x ∷ c)) ++ t ++ (y ∷ z ∷ [])
-    ≡ a ++ (d ++ (b ++ ((x ∷ []) ++ (c ++ ((t ++ (y ∷ [])) ++ (z ∷ []))))))
-regroup a d b c t x y z = simp append_assoc
 
 abbrev before_station : List ℕ
 before_station = octets "{\"station\":"
@@ -108,32 +108,24 @@ module _ (m : Message) (fits : message_fits m ≡ true) (twenty : length m.digit
   abbrev so : Fits m
   so = fits_so m fits
 
-  tracks : Cut m.digits m.tracks
-  tracks = cut m.digits m.tracks twenty so.least so.most
+  tracks_cut : Cut m.digits m.tracks
+  tracks_cut = cut m.digits m.tracks twenty so.least so.most
 
-  abbrev aspect_text : List ℕ
-  aspect_text = before_aspect ++ ((48 + m.aspect) ∷ before_tracks)
-
-  spelt : before_station ++ decimal m.station ++ aspect_text ++ shown ++ octets "]}" ≡ written m
+  -- what the code puts in a row
+  pub spelt : {number tracks : List ℕ} → number ≡ decimal m.station → tracks ≡ track_texts m.digits
+      → before_station
+      ++ (number
+      ++ (before_aspect ++ ((48 + m.aspect) ∷ (before_tracks ++ (take (12 * m.tracks) tracks ++ octets "]}")))))
+      ≡ written m
   unfolding written
-  spelt =
-      regroup before_station (decimal m.station) before_aspect before_tracks shown (48 + m.aspect) 93 125
-      ∙ λ i.
-      before_station
-      ++ (decimal m.station ++ (before_aspect ++ (aspect i ++ (before_tracks ++ (list i ++ octets "}")))))
+  spelt {number} {tracks} e t =
+      (λ i. before_station ++ (e i ++ (before_aspect ++ (aspect i ++ (before_tracks ++ list i)))))
     where
       aspect : (48 + m.aspect) ∷ [] ≡ decimal m.aspect
       aspect = sym (decimal_digit m.aspect (omega (arith, so.aspect)))
 
-      list : shown ++ (93 ∷ []) ≡ listed (texts decimal m.tracks m.digits)
-      list = sym (ap listed (same_texts m.tracks m.digits so.digits) ∙ tracks.0)
-
-  -- what the code puts in a row
-  pub row_spelt : {number aspect list : List ℕ} → number ≡ decimal m.station
-      → aspect ≡ aspect_text
-      → list ≡ track_texts m.digits
-      → before_station ++ number ++ aspect ++ take (12 * m.tracks) list ++ octets "]}" ≡ written m
-  row_spelt e a l = (λ i. before_station ++ e i ++ a i ++ take (12 * m.tracks) (l i) ++ octets "]}") ∙ spelt
-
-  pub shown_length : length shown ≡ 12 * m.tracks
-  shown_length = tracks.1
+      list : take (12 * m.tracks) tracks ++ octets "]}" ≡ listed (texts decimal m.tracks m.digits) ++ octets "}"
+      list =
+          ap (λ l. take (12 * m.tracks) l ++ octets "]}") t
+          ∙ sym (append_assoc shown (93 ∷ []) (125 ∷ []))
+          ∙ ap (λ l. l ++ octets "}") (sym (ap listed (same_texts m.tracks m.digits so.digits) ∙ tracks_cut.0))

@@ -1,22 +1,17 @@
--- Numbers and characters end within the text.
+-- Numbers end within the text.
 -- Assumes nothing.
 use Prim.Native.Nat.{ℕ, zero, suc, ◌+◌, ◌≤◌}
-use mathlib.Core.Bool.{Bool, cond, false, not, true, ◌&&◌, ◌||◌}
+use mathlib.Core.Bool.{Bool, cond, false, true}
 use mathlib.Core.List.{List, [], ◌∷◌}
-use mathlib.Core.Path.{◌≡◌, ap, refl}
+use mathlib.Core.Path.{◌≡◌, refl}
 use native.Mathlib.Omega.{arith}
-use borrow.Author.Tests.{ltb-false}
-use lib.Dec.{eqb, ltb}
+use lib.Dec.{eqb}
 use lib.ListN.{drop, length, length-drop}
-use Rattle.chains.proofs.Chains.{neither}
-use Rattle.json_reader.proofs.Cases.{both}
 use Rattle.json_reader.proofs.Further.{cond_some}
-use Rattle.json_reader.proofs.Places.{in_text, taken_in_text}
-use Rattle.rules_json.specs.Abnf.{within}
-use Rattle.rules_json.specs.Grammar.{digit, e, escaped, hexdig}
-use Rattle.rules_json.specs.Reader.{at, char_size, digits, escape_size, exp_size, frac_size, further, int_size, leading}
-use Rattle.rules_json.specs.Reader.{minus_size, number_size, rest_size, second, sign_size, tail, unsigned_size}
-use Rattle.rules_json.specs.Reader.{utf8_size}
+use Rattle.json_reader.proofs.Places.{taken_in_text}
+use Rattle.rules_json.specs.Grammar.{digit, e}
+use Rattle.rules_json.specs.Reader.{at, digits, exp_size, frac_size, further, int_size, leading}
+use Rattle.rules_json.specs.Reader.{minus_size, number_size, rest_size, sign_size, unsigned_size}
 
 module _ (s : List ℕ) where
   either_within : (t : Bool) (n m : ℕ) → (t ≡ true → n ≤ length s) → (t ≡ false → m ≤ length s) → cond t n m ≤ length s
@@ -33,15 +28,7 @@ module _ (s : List ℕ) where
 
   -- the text goes past an octet of a class
   past_octet : (class : ℕ → Bool) → class 0 ≡ false → (place : ℕ) → class (at s place) ≡ true → suc place ≤ length s
-  past_octet class none place h = taken_in_text s place class (at s place) refl none h
-
-  last_within : (p : Bool) (class : ℕ → Bool) → class 0 ≡ false → (place : ℕ)
-      → cond (p && class (at s place)) (suc place) 0 ≤ length s
-  last_within p class none place =
-      if_within (p && class (at s place)) (suc place)
-      (λ t. past_octet class none place (both p (class (at s place)) t).1)
-
--- ---- numbers
+  past_octet class none place h = taken_in_text s place class none h
 
 leading_within : (class : ℕ → Bool) (s : List ℕ) → leading class s ≤ length s
 leading_within class [] = omega arith
@@ -78,33 +65,3 @@ unsigned_within s =
 pub number_within : (s : List ℕ) → number_size s ≤ length s
 unfolding number_size
 number_within s = further_within s (minus_size s) _ (unsigned_within (drop (minus_size s) s))
-
--- ---- characters
-
-utf8_within : (s : List ℕ) → ltb (at s 0) 0x20 ≡ false → utf8_size s ≤ length s
-unfolding utf8_size
-utf8_within s h =
-    either_within s (ltb (at s 0) 0x80) 1 _ (λ t. in_text s 0 (λ z. omega (arith, ltb-false (at s 0) 0x20 h)))
-    (λ t. either_within s (within 0xC2 0xDF (at s 0)) _ _
-    (λ t. if_within s (tail (at s 1)) 2 (past_octet s tail refl 1))
-    (λ t. either_within s (within 0xE0 0xEF (at s 0)) _ _
-    (λ t. last_within s (second (at s 0) (at s 1)) tail refl 2)
-    (λ t. if_within s (within 0xF0 0xF4 (at s 0)) _
-    (λ t. last_within s (second (at s 0) (at s 1) && tail (at s 2)) tail refl 3))))
-
-abbrev escapes : ℕ → Bool
-escapes b = not (eqb (escaped b) 0)
-
-escape_within : (s : List ℕ) → escape_size s ≤ length s
-unfolding escape_size
-escape_within s =
-    either_within s (eqb (at s 1) 0x75) _ _
-    (λ t. last_within s (hexdig (at s 2) && hexdig (at s 3) && hexdig (at s 4)) hexdig refl 5)
-    (λ t. either_within s (eqb (escaped (at s 1)) 0) 0 2 (λ t. omega arith)
-    (λ t. past_octet s escapes refl 1 (ap not t)))
-
-pub char_within : (s : List ℕ) → char_size s ≤ length s
-unfolding char_size
-char_within s =
-    either_within s (ltb (at s 0) 0x20 || eqb (at s 0) 0x22) 0 _ (λ t. omega arith)
-    (λ t. either_within s (eqb (at s 0) 0x5C) _ _ (λ u. escape_within s) (λ u. utf8_within s (neither _ _ t).0))

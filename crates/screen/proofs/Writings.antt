@@ -3,38 +3,23 @@
 use Prim.Native.Nat.{ℕ, ◌≤◌, ◌<◌}
 use native.Mathlib.Decide.{dec_le}
 use native.Mathlib.Omega.{arith}
-use mathlib.Core.Path.{◌≡◌, refl, sym, ◌∙◌}
+use mathlib.Core.Path.{◌≡◌, refl, sym, subst, ap, ◌∙◌}
 use mathlib.Core.Bool.{Bool, true, false, cond, not}
 use mathlib.Core.List.{List}
 use borrow.Author.Tests.{le-ltb, lt-ltb}
 use lib.Dec.{eqb, ltb}
 use lib.ListN.{length}
 use Rattle.io.specs.Counts.{IsPrefixLen}
-use Rattle.rules.specs.Printer.{length_written, written as written_at_start}
 use Rattle.rules.specs.Screen.{after_writing, message_fits, writing_answer, written, written_of}
 use Rattle.rules.specs.Words.{◌if◌then◌}
 use Rattle.rules.specs.declared.Message.{Message}
 use Rattle.rules.specs.declared.Written.{Written}
-use Rattle.text.proofs.Placing.{Told, begun, fit, unfitted, written_as}
-
--- what `write_text` promises
-abbrev pub TextTold : List ℕ → List ℕ → ℕ → List ℕ → Type 0
-TextTold text b r b' =
-    record {
-      value : r ≡ length_written text b;
-      buffer_after : b' ≡ written_at_start text b;
-      prefix_len : IsPrefixLen r b';
-    }
-
--- the text in a row is the text of the message
-pub row_told : (b : List ℕ) {row line b' : List ℕ} {r : ℕ} → row ≡ line → Told row b r b' → TextTold line b r b'
-row_told b {row} {line} {b'} {r} e told =
-    let line_told = written_as b e told in
-    record {
-      value = line_told.value;
-      buffer_after = line_told.out_after;
-      prefix_len = line_told.prefix_len;
-    }
+use Rattle.std.specs.Option.{ok_or}
+use Rattle.std.specs.Prelude.{Err, IfOk, IfSome, Ok, Option, Result}
+use Rattle.rules.specs.Answered.{written_in}
+use Rattle.rules.specs.declared.Refusal.{Refusal}
+use Rattle.text.specs.Texts.{length_where_it_fits}
+use Rattle.text.proofs.Placing.{Told, begun, bytes_fitted, bytes_unfitted, length_fitted, length_unfitted}
 
 module _ (m : Message) (b : List ℕ) where
   abbrev size : ℕ
@@ -44,12 +29,12 @@ module _ (m : Message) (b : List ℕ) where
   answer fits short = 16 if not fits then 12 if short then 0
 
   -- what `write` promises
-  abbrev Outcome : Written → List ℕ → Type 0
+  abbrev Outcome : Result ℕ Refusal → List ℕ → Type 0
   Outcome r b' =
       record {
-        value : r ≡ written_of m (length b);
+        value : written_in r ≡ written_of m (length b);
         buffer_after : b' ≡ after_writing m b;
-        prefix_len : IsPrefixLen r.length b';
+        prefix_len : IfOk r (λ n. IsPrefixLen n b');
       }
 
   abbrev gives : Bool → Bool → Written
@@ -65,48 +50,43 @@ module _ (m : Message) (b : List ℕ) where
   unfolding after_writing writing_answer
   held fits short e h = sym (λ i. cond (eqb (answer (e i) (h i)) 0) (begun (written m) b) b)
 
-  pub refused : message_fits m ≡ false → Outcome (record { answer = 16; length = 0 }) b
+  pub refused : message_fits m ≡ false → Outcome (Err Refusal.BadMember) b
   unfolding ◌if◌then◌
-  refused e =
-      record { value = given false _ e refl; buffer_after = held false _ e refl; prefix_len = (omega arith, refl) }
+  refused e = record { value = given false _ e refl; buffer_after = held false _ e refl; prefix_len = tt }
 
-  some_text : 1 ≤ size
-  unfolding written
-  some_text = omega arith
-
-  module _ (fits : message_fits m ≡ true) (r : ℕ) (b' : List ℕ) (text_told : TextTold (written m) b r b') where
-    told : Told (written m) b r b'
-    told = record { value = text_told.value; out_after = text_told.buffer_after; prefix_len = text_told.prefix_len }
-
-    pub no_room_lem : r ≡ 0 → Outcome (record { answer = 12; length = 0 }) b'
+  module _ (fits : message_fits m ≡ true) (o : Option ℕ) (b' : List ℕ) (told : Told (written m) b o b') where
+    -- where it fits, and where it does not
+    fitted : size ≤ length b → Outcome (Ok size) b'
     unfolding ◌if◌then◌
-    no_room_lem z = go (dec_le size (length b))
-      where
-        go : Dec (size ≤ length b) → Outcome (record { answer = 12; length = 0 }) b'
-        go (yes h) = let no : ⊥ = omega (arith, some_text, (fit (written m) b h told).0) in absurd no
-        go (no h) =
-            let short : length b < size = omega arith in
-            let same = told.out_after ∙ sym (unfitted (written m) b short).1 in
-            let lacking = lt-ltb (length b) size short in
-            record {
-              value = given true true fits lacking;
-              buffer_after = same ∙ held true true fits lacking;
-              prefix_len = (omega arith, refl);
-            }
+    fitted h =
+        let room = le-ltb (length b) size h in
+        record {
+          value = given true false fits room;
+          buffer_after = told.out_after ∙ bytes_fitted (written m) b h ∙ held true false fits room;
+          prefix_len = subst (λ r. IfSome r (λ n. IsPrefixLen n b')) (told.value ∙ length_fitted (written m) b h)
+              told.prefix_len;
+        }
 
-    pub done : (r ≡ 0 → ⊥) → Outcome (record { answer = 0; length = r }) b'
+    short : length b < size → Outcome (Err Refusal.NoRoom) b'
     unfolding ◌if◌then◌
-    done some = go (dec_le size (length b))
+    short h =
+        let lacking = lt-ltb (length b) size h in
+        record {
+          value = given true true fits lacking;
+          buffer_after = told.out_after ∙ bytes_unfitted (written m) b h ∙ held true true fits lacking;
+          prefix_len = tt;
+        }
+
+    pub done : {r : Result ℕ Refusal} → r ≡ ok_or o Refusal.NoRoom → Outcome r b'
+    done {r} e = go (dec_le size (length b))
       where
-        go : Dec (size ≤ length b) → Outcome (record { answer = 0; length = r }) b'
-        go (yes h) =
-            let whole = fit (written m) b h told in
-            let room = le-ltb (length b) size h in
-            record {
-              value = (λ i. record { answer = 0; length = whole.0 i }) ∙ given true false fits room;
-              buffer_after = whole.1 ∙ held true false fits room;
-              prefix_len = told.prefix_len;
-            }
+        -- what it then gives
+        given_by : {p : Option ℕ} → length_where_it_fits (written m) b ≡ p → Outcome (ok_or p Refusal.NoRoom) b'
+            → Outcome r b'
+        given_by q = subst (λ r. Outcome r b') (sym (e ∙ ap (λ o. ok_or o Refusal.NoRoom) (told.value ∙ q)))
+
+        go : Dec (size ≤ length b) → Outcome r b'
+        go (yes h) = given_by (length_fitted (written m) b h) (fitted h)
         go (no h) =
-            let short : length b < size = omega arith in
-            absurd (some (told.value ∙ sym (unfitted (written m) b short).0))
+            let less : length b < size = omega arith in
+            given_by (length_unfitted (written m) b less) (short less)

@@ -1,85 +1,80 @@
 // Names of members, compared after escapes.
-ghost use Rattle.std.specs.Prelude.{false, not, true, ◌≡◌, ◌≤◌};
+ghost use Rattle.std.specs.Prelude.{false, not, true, ◌≡◌, ◌≤◌, drop};
+ghost use Rattle.json_reader.specs.Places.{past};
 ghost use Rattle.rules.specs.Screen.{same};
 ghost use Rattle.rules.specs.Words.{any};
-ghost use Rattle.rules_json.specs.Reader.{at, string_size, string_units};
+ghost use Rattle.rules_json.specs.Reader.{at as octet_at, string_size, string_units};
 ghost use Rattle.screen.specs.Letters.{is_letter, letter_size, stands_for};
 ghost use Rattle.screen.specs.Places.{first_of};
 
+use json_reader::octet;
+
 // The place of the first value of a name: the one there was, or where there was none this member's
-// value, if the string at the head says the name.
-pub(crate) fn first_of(was: usize, head: &[u8], name: &[u8], value: usize) -> usize
-    requires fact { string_size head.now ≡ 0 → ⊥ }
+// value, if the string at a place says the name.
+pub(crate) fn first_of(
+    was: Option<usize>,
+    text: &[u8],
+    at: usize,
+    name: &[u8],
+    value: usize,
+) -> Option<usize>
+    requires string_value { string_size (drop at text.now) ≡ 0 → ⊥ }
     requires name_value { any (λ b. not (is_letter b)) name.now ≡ false }
-    ensures { result ≡ first_of was (string_units head.now) name.now value }
+    ensures { result ≡ first_of was (string_units (drop at text.now)) name.now value }
 {
-    if was != 0 {
+    if was.is_some() {
         return was;
     }
-    if says(head, name) {
-        return value;
-    }
-    0
+    says(text, at, name).then_some(value)
 }
 
-// Whether the string at the head says a word of letters. It was read already, so that behind the
-// word there is another character or the quotation mark that ends it.
-fn says(head: &[u8], word: &[u8]) -> bool
-    requires fact { string_size head.now ≡ 0 → ⊥ }
+// Whether the string at a place says a word of letters. It was read already, so that behind the word
+// there is another character or the quotation mark that ends it.
+fn says(text: &[u8], at: usize, word: &[u8]) -> bool
+    requires string_value { string_size (drop at text.now) ≡ 0 → ⊥ }
     requires word_value { any (λ b. not (is_letter b)) word.now ≡ false }
-    ensures { result ≡ same (string_units head.now) word.now }
+    ensures { result ≡ same (string_units (drop at text.now)) word.now }
 {
-    let mut place = 1;
-    let mut letter = 0;
-    while letter < word.len() {
-        let size = letter_size(&head[place..], word[letter]);
-        if size == 0 {
+    let mut place = at + 1;
+    for &letter in word {
+        let Some(past) = past_letter(text, place, letter) else {
             return false;
-        }
-        place = place + size;
-        letter = letter + 1;
+        };
+        place = past;
     }
-    json_reader::octet(head, place) == b'"'
+    octet(text, place) == b'"'
 }
 
-// How many octets at the head say a letter, after escapes: 0 where they say something else.
-fn letter_size(head: &[u8], letter: u8) -> usize
+// Past a letter at a place, as it stands or behind an escape.
+#[tactic(auto, using(crate::proofs::Letters::letters))]
+fn past_letter(text: &[u8], at: usize, letter: u8) -> Option<usize>
     requires { is_letter letter ≡ true }
-    ensures { result ≡ letter_size letter head.now }
+    ensures { result ≡ past at (letter_size letter (drop at text.now)) }
 {
-    let found = json_reader::octet(head, 0);
+    let found = octet(text, at);
     // Most letters stand for themselves.
     if found == letter {
-        return 1;
+        return Some(at + 1);
     }
     if found != b'\\' {
-        return 0;
+        return None;
     }
-    escape_size(head, letter)
+    past_escape(text, at, letter)
 }
 
 // The same where an escape begins: of all escapes only \u with four hexadecimal digits says a letter.
-fn escape_size(head: &[u8], letter: u8) -> usize
+#[tactic(auto, using(crate::proofs::Letters::escapes))]
+fn past_escape(text: &[u8], at: usize, letter: u8) -> Option<usize>
     requires letter_value { is_letter letter ≡ true }
-    requires head_value { at head.now 0 ≡ 0x5C }
-    ensures { result ≡ letter_size letter head.now }
+    requires text_value { octet_at text.now at ≡ 0x5C }
+    ensures { result ≡ past at (letter_size letter (drop at text.now)) }
 {
-    if json_reader::octet(head, 1) != b'u' {
-        return 0;
-    }
-    if json_reader::octet(head, 2) != b'0' {
-        return 0;
-    }
-    if json_reader::octet(head, 3) != b'0' {
-        return 0;
-    }
-    if !stands_for(json_reader::octet(head, 4), letter / 16) {
-        return 0;
-    }
-    if !stands_for(json_reader::octet(head, 5), letter % 16) {
-        return 0;
-    }
-    6
+    let says_letter = octet(text, at + 1) == b'u'
+        && octet(text, at + 2) == b'0'
+        && octet(text, at + 3) == b'0'
+        && stands_for(octet(text, at + 4), letter / 16)
+        && stands_for(octet(text, at + 5), letter % 16);
+    says_letter.then_some(at + 6)
 }
 
 // Whether an octet is the hexadecimal digit of a number below 16.

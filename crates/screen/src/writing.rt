@@ -1,108 +1,77 @@
 // The text of a message.
-ghost use Rattle.std.specs.Prelude.{not, true, ◌∷◌, ◌++◌, ◌≡◌, ◌+◌, ◌≤◌, eqb, ltb, length, take};
+ghost use Rattle.std.specs.Prelude.{not, true, ◌≡◌, ◌≤◌, IfOk, IfSome, eqb, ltb, length};
 ghost use Rattle.io.specs.Counts.{IsPrefixLen};
-ghost use Rattle.rules.specs.Printer.{decimal, length_written, written as written_in, zero_or_one};
+ghost use Rattle.rules.specs.Answered.{written_in};
+ghost use Rattle.rules.specs.Printer.{written as written_at_start, zero_or_one};
 ghost use Rattle.rules.specs.Screen.{after_writing, message_fits, written, written_of};
 ghost use Rattle.rules.specs.Words.{any};
-ghost use Rattle.rules_json.specs.Abnf.{octets};
 ghost use Rattle.screen.specs.Texts.{track_text, track_texts};
+ghost use Rattle.text.specs.Texts.{length_where_it_fits};
 
-use rules::{BAD_MEMBER, DONE, Message, NO_ROOM, TrackDigits, Written};
-use text::in_a_row;
+use rules::{Message, Refusal, TrackDigits};
+use text::{Decimal, in_a_row};
 
 const GREATEST_ASPECT: u8 = 5;
 
 // The octets of a track in the text: what stands before it, its brackets, five digits and four commas.
 const TRACK: usize = 12;
 
-// Writes the text at the start of the buffer, and touches no byte past it. Where the message is
-// outside its ranges or the text does not fit, nothing is written. (That the length counts bytes of
+// Writes the text at the start of the buffer, answers its length, and touches no byte past it. Where the
+// message is outside its ranges or the text does not fit, nothing is written. (That the length counts bytes of
 // the buffer follows from the rest; it is said so that a caller's &buffer[..length] needs no proof.)
-pub fn write(message: Message, buffer: &mut [u8]) -> Written
-    ensures value { result ≡ written_of message (length buffer.old) }
+pub fn write(message: Message, buffer: &mut [u8]) -> Result<usize, Refusal>
+    ensures value { written_in result ≡ written_of message (length buffer.old) }
     ensures buffer_after { buffer.new ≡ after_writing message buffer.old }
-    ensures prefix_len { IsPrefixLen result.length buffer.new }
+    ensures prefix_len { IfOk result (λ n. IsPrefixLen n buffer.new) }
 {
     if !fits(message) {
-        return Written {
-            answer: BAD_MEMBER,
-            length: 0,
-        };
+        return Err(Refusal::BadMember);
     }
-    let length = write_text(message, buffer);
-    if length == 0 {
-        return Written {
-            answer: NO_ROOM,
-            length: 0,
-        };
-    }
-    Written {
-        answer: DONE,
-        length,
-    }
+    write_text(message, buffer).ok_or(Refusal::NoRoom)
 }
 
 // Whether every member is within its range. No u16 is above 65,535.
+#[tactic(auto, using(std::proofs::lemmas::Bool::Decides::nat_tests), unfolding(rules::specs::Screen::message_fits))]
 fn fits(message: Message) -> bool
     ensures { result ≡ message_fits message }
 {
-    let aspect = message.aspect <= GREATEST_ASPECT;
-    let tracks = (1 <= message.tracks) & (message.tracks <= 4);
-    let ranges = aspect & tracks;
-    if !ranges {
+    if GREATEST_ASPECT < message.aspect || message.tracks < 1 || 4 < message.tracks {
         return false;
     }
-    let digits = message.digits;
     let shown = 5 * message.tracks as usize;
-    let wrong = some_above(1, &digits[..shown]);
-    let beyond = some_above(0, &digits[shown..]);
-    !wrong & !beyond
+    !some_above(1, &message.digits[..shown]) && !some_above(0, &message.digits[shown..])
 }
 
 fn some_above(most: u8, digits: &[u8]) -> bool
     ensures { result ≡ any (ltb most) digits.now }
 {
-    let mut found = false;
-    let mut i: usize = 0;
-    while i < digits.len() {
-        found = found | (most < digits[i]);
-        i += 1;
-    }
-    found
+    digits.iter().any(|digit| most < *digit)
 }
 
-// Writes the text of a message that is within its ranges, and answers its length: 0 where it does
-// not fit, and then nothing is written.
-fn write_text(message: Message, buffer: &mut [u8]) -> usize
+// Writes the text of a message that is within its ranges, and answers its length. Where it does not fit there
+// is no answer, and nothing is written.
+fn write_text(message: Message, buffer: &mut [u8]) -> Option<usize>
     requires { message_fits message ≡ true }
-    ensures value { result ≡ length_written (written message) buffer.old }
-    ensures buffer_after { buffer.new ≡ written_in (written message) buffer.old }
-    ensures prefix_len { IsPrefixLen result buffer.new }
+    ensures value { result ≡ length_where_it_fits (written message) buffer.old }
+    ensures out_after { buffer.new ≡ written_at_start (written message) buffer.old }
+    ensures prefix_len { IfSome result (λ n. IsPrefixLen n buffer.new) }
 {
-    let mut number = [0u8; 20];
-    let length = number_text(message.station as u64, &mut number);
-    let aspect = aspect_text(message.aspect);
-    let digits = message.digits;
-    let list = track_texts(digits);
+    let station = Decimal::of(message.station.into());
+    let aspect = [b'0' + message.aspect];
+    let tracks = track_texts(message.digits);
     let end = TRACK * message.tracks as usize;
     in_a_row(
         buffer,
-        b"{\"station\":",
-        &number[..length],
-        &aspect,
-        &list[..end],
-        b"]}",
+        &[
+            b"{\"station\":",
+            station.as_slice(),
+            b",\"aspect\":",
+            &aspect,
+            b",\"tracks\":",
+            &tracks[..end],
+            b"]}",
+        ],
     )
-}
-
-// Between the station's number and the tracks.
-fn aspect_text(aspect: u8) -> [u8; 21]
-    requires { aspect ≤ 5 }
-    ensures { result ≡ octets ",\"aspect\":" ++ ((48 + aspect) ∷ octets ",\"tracks\":") }
-{
-    let mut text = *b",\"aspect\":0,\"tracks\":";
-    text[10] = b'0' + aspect;
-    text
 }
 
 // Four tracks, one after the other, whether there or not.
@@ -112,9 +81,9 @@ fn track_texts(digits: TrackDigits) -> [u8; 48]
     let first = track_text(b'[', &digits[..5]);
     let second = track_text(b',', &digits[5..10]);
     let third = track_text(b',', &digits[10..15]);
-    let fourth = track_text(b',', &digits[15..20]);
-    let mut texts = [0u8; 48];
-    in_a_row(&mut texts, &first, &second, &third, &fourth, b"");
+    let fourth = track_text(b',', &digits[15..]);
+    let mut texts = [0; 48];
+    in_a_row(&mut texts, &[&first, &second, &third, &fourth]);
     texts
 }
 
@@ -142,13 +111,5 @@ fn track_text(before: u8, five: &[u8]) -> [u8; 12]
 fn digit(number: u8) -> u8
     ensures { result ≡ zero_or_one (not (eqb number 0)) }
 {
-    if number == 0 { b'0' } else { b'1' }
-}
-
-// Puts a number's decimal digits at the start of text, and answers how many there are.
-fn number_text(number: u64, text: &mut [u8; 20]) -> usize
-    ensures prefix_len { IsPrefixLen result text.new }
-    ensures text_after { take result text.new ≡ decimal number }
-{
-    io::decimal(number, text)
+    b'0' + u8::from(number != 0)
 }

@@ -2,88 +2,52 @@
 // or `refused` and the number.
 #![tactic(auto)]
 
-use rules::{DONE, Message, TrackDigits};
+use rules::{Message, Refusal};
 use std::io;
 use std::process::ExitCode;
+use verb::Status;
 
 fn main(rt: HostRuntime) -> ExitCode {
     // One byte more than a message has: more is refused, and nobody needs the rest.
-    let mut input = [0u8; 4097];
-    let length = verb::read(&rt, &mut input);
+    let mut room = [0u8; 4097];
+    let input = verb::read(&rt, &mut room);
     if verb::input_failed(&rt) {
         return ExitCode::SUCCESS;
     }
-    verb::ended(&rt, told(&rt, &input[..length]))
+    verb::ended(&rt, told(&rt, input))
 }
 
 // Writes what a text says.
-fn told(rt: &impl Print, text: &[u8]) -> io::Result<u8> {
-    let received = screen::read(text);
-    if received.answer != DONE {
-        refused(rt, received.answer)?;
-        return Ok(verb::REFUSED);
+fn told(rt: &impl Print, text: &[u8]) -> io::Result<Status> {
+    match screen::read(text) {
+        Ok(message) => {
+            shown(rt, message)?;
+            Ok(Status::Done)
+        }
+        Err(refusal) => {
+            refused(rt, refusal)?;
+            Ok(Status::Refused)
+        }
     }
-    shown(rt, received.message)?;
-    Ok(verb::DONE)
 }
 
+// Of the tracks only those that are there, a space before each.
 fn shown(rt: &impl Print, message: Message) -> io::Result<()> {
-    let digits = message.digits;
     print!(rt;
         "station {} aspect {} tracks",
         message.station, message.aspect
     )?;
-    tracks(rt, message.tracks, digits)?;
+    for track in message.digits.chunks_exact(5).take(message.tracks.into()) {
+        verb::write(rt, b" ")?;
+        for &digit in track {
+            verb::write(rt, if digit == 0 { b"0" } else { b"1" })?;
+        }
+    }
     verb::write(rt, b"\n")
 }
 
-// Only those that are there, a space before each.
-fn tracks(rt: &impl Print, count: u8, digits: TrackDigits) -> io::Result<()> {
-    track(
-        rt,
-        0 < count,
-        [digits[0], digits[1], digits[2], digits[3], digits[4]],
-    )?;
-    track(
-        rt,
-        1 < count,
-        [digits[5], digits[6], digits[7], digits[8], digits[9]],
-    )?;
-    track(
-        rt,
-        2 < count,
-        [digits[10], digits[11], digits[12], digits[13], digits[14]],
-    )?;
-    track(
-        rt,
-        3 < count,
-        [digits[15], digits[16], digits[17], digits[18], digits[19]],
-    )
-}
-
-fn track(rt: &impl Print, there: bool, five: [u8; 5]) -> io::Result<()> {
-    if !there {
-        return Ok(());
-    }
-    verb::write(
-        rt,
-        &[
-            b' ',
-            digit(five[0]),
-            digit(five[1]),
-            digit(five[2]),
-            digit(five[3]),
-            digit(five[4]),
-        ],
-    )
-}
-
-fn digit(number: u8) -> u8 {
-    if number == 0 { b'0' } else { b'1' }
-}
-
-fn refused(rt: &impl Print, answer: u8) -> io::Result<()> {
+fn refused(rt: &impl Print, refusal: Refusal) -> io::Result<()> {
     let mut line = [0u8; 64];
-    let length = sheet::refusal_line(&mut line, answer, 0);
+    let length = sheet::refusal_line(&mut line, refusal.into(), 0).unwrap_or(0);
     verb::write(rt, &line[..length])
 }

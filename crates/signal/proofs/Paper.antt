@@ -1,9 +1,7 @@
--- Document 01's sentence on the outputs, over every number; and the step by which a number that is none of the six is
--- above 5.
+-- Document 01's sentence on the outputs, over every number.
 use mathlib.Core.Path.{◌≡◌, ◌∙◌, refl}
 use mathlib.Core.List.{[], ◌∷◌}
-use Prim.Native.Nat.{ℕ, zero, suc, ◌≤◌, ◌<◌}
-use native.Mathlib.Omega.{arith}
+use Prim.Native.Nat.{ℕ, zero, suc, ◌<◌}
 use lib.ListN.{get_or, get_or-eq_default}
 use Rattle.rules.specs.Outputs.{outputs_of}
 
@@ -19,6 +17,3 @@ paper_outputs (suc (suc (suc (suc (suc (suc aspect)))))) = refl
 
 pub above_five : (aspect : ℕ) → 5 < aspect → outputs_of aspect ≡ 0
 above_five aspect h = paper_outputs aspect ∙ get_or-eq_default (1 ∷ 34 ∷ 72 ∷ 152 ∷ 260 ∷ 0 ∷ []) 0 h
-
-pub next : {n a : ℕ} → n ≤ a → (a ≡ n → ⊥) → n < a
-next h other = omega arith

@@ -6,9 +6,8 @@ ghost use Rattle.rules.specs.Heads.{head_outputs};
 ghost use Rattle.rules.specs.Outputs.{outputs_of};
 
 use rules::{
-    BOARD_FAILED, CLEARING, COMMUNICATION_FAILED, FORBIDDEN, GREATEST_RISK, GREEN_FAILED, NI,
-    ORANGE_FAILED, OUT_OF_SERVICE, PERMITTED, POWER_FAILED, R_PLUS, RED_FAILED, RF, S1, S1_FAILED,
-    S2, S2_FAILED, S3, S3_FAILED, S4, S4_FAILED, SURROUNDINGS, VF, VI,
+    Aspect, BOARD_FAILED, COMMUNICATION_FAILED, GREEN_FAILED, NI, ORANGE_FAILED, POWER_FAILED,
+    R_PLUS, RED_FAILED, RF, S1, S1_FAILED, S2, S2_FAILED, S3, S3_FAILED, S4, S4_FAILED, VF, VI,
 };
 
 const LAMPS: u16 = VF | VI | NI | RF | R_PLUS;
@@ -20,17 +19,17 @@ const LAMP_FAILED: u16 = GREEN_FAILED | ORANGE_FAILED | RED_FAILED | BOARD_FAILE
 const SOUNDER_FAILED: u16 = S1_FAILED | S2_FAILED | S3_FAILED | S4_FAILED;
 
 // The nine output bits of an aspect; a number above 5 gives 0.
+#[tactic(auto, using(crate::proofs::Paper::above_five), unfolding(rules::specs::Outputs::outputs_of))]
 pub fn outputs(aspect: u8) -> u16
     ensures { result ≡ outputs_of aspect }
 {
-    match aspect {
-        PERMITTED => VF,
-        CLEARING => VI | S1,
-        FORBIDDEN => RF | S2,
-        GREATEST_RISK => RF | R_PLUS | S3,
-        SURROUNDINGS => NI | S4,
-        OUT_OF_SERVICE => 0,
-        _ => 0,
+    match Aspect::try_from(aspect) {
+        Ok(Aspect::Permitted) => VF,
+        Ok(Aspect::Clearing) => VI | S1,
+        Ok(Aspect::Forbidden) => RF | S2,
+        Ok(Aspect::GreatestRisk) => RF | R_PLUS | S3,
+        Ok(Aspect::Surroundings) => NI | S4,
+        Ok(Aspect::OutOfService) | Err(_) => 0,
     }
 }
 

@@ -2,51 +2,43 @@
 #![tactic(auto)]
 
 ghost use Rattle.std.specs.Prelude.{◌≡◌, ◌≤◌};
-ghost use Rattle.rules.specs.Numbers.{done, outside_limits};
-ghost use Rattle.rules.specs.Siting.{advance_sited, rounded_up, sited, warning_sited};
+ghost use Rattle.rules.specs.Answered.{sited_in};
+ghost use Rattle.rules.specs.Siting.{advance_sited, rounded_up, warning_sited};
 
-use rules::{DONE, Decimetres, OUTSIDE_LIMITS, Seconds, Sited};
+use rules::{Decimetres, Refusal, Seconds};
 
 // The advance distance, for a speed in km/h and the time that the message takes.
-pub fn advance(speed: u16, message: Seconds) -> Sited
-    ensures { result ≡ advance_sited speed message }
+#[tactic(auto, using(crate::proofs::Limits::met, crate::proofs::Limits::missed), unfolding(rules::specs::Siting::advance_sited))]
+pub fn advance(speed: u16, message: Seconds) -> Result<Decimetres, Refusal>
+    ensures { sited_in result ≡ advance_sited speed message }
 {
-    let seconds = message.number();
+    let seconds = u16::from(message);
     let good = (1 <= speed) & (speed <= 350) & (seconds <= 60);
     if good {
-        return found(50 * speed as u32 * (30 + seconds as u32));
+        Ok(found(50 * u32::from(speed) * (30 + u32::from(seconds))))
+    } else {
+        Err(Refusal::OutsideLimits)
     }
-    refused()
 }
 
 // The warning distance, for a speed in km/h and the number of tracks to cross.
-pub fn warning(speed: u16, tracks: u8) -> Sited
-    ensures { result ≡ warning_sited speed tracks }
+#[tactic(auto, using(crate::proofs::Limits::met, crate::proofs::Limits::missed), unfolding(rules::specs::Siting::warning_sited))]
+pub fn warning(speed: u16, tracks: u8) -> Result<Decimetres, Refusal>
+    ensures { sited_in result ≡ warning_sited speed tracks }
 {
     let good = (1 <= speed) & (speed <= 350) & (1 <= tracks) & (tracks <= 4);
     if good {
-        return found(50 * speed as u32 * 7 * tracks as u32);
+        Ok(found(50 * u32::from(speed) * 7 * u32::from(tracks)))
+    } else {
+        Err(Refusal::OutsideLimits)
     }
-    refused()
 }
 
 // A number of eighteenths of a decimetre, rounded up once. The greatest is 50 · 350 · 90, and the greatest distance
 // 87,500 decimetres, which sixteen bits do not hold.
-fn found(eighteenths: u32) -> Sited
+fn found(eighteenths: u32) -> Decimetres
     requires { eighteenths ≤ 1575000 }
-    ensures { result ≡ sited done (rounded_up eighteenths 18) }
+    ensures { result ≡ record { 0 = rounded_up eighteenths 18 } }
 {
-    Sited {
-        answer: DONE,
-        distance: Decimetres::of((eighteenths + 17) / 18),
-    }
-}
-
-fn refused() -> Sited
-    ensures { result ≡ sited outside_limits 0 }
-{
-    Sited {
-        answer: OUTSIDE_LIMITS,
-        distance: Decimetres::of(0),
-    }
+    Decimetres::from(eighteenths.div_ceil(18))
 }

@@ -3,28 +3,28 @@
 // number up to 65535 stands for one that is outside every limit.
 #![tactic(auto)]
 
-use rules::{DONE, Seconds, Sited};
+use rules::{Decimetres, Refusal, Seconds};
 use std::env::Env;
 use std::io;
 use std::process::ExitCode;
+use verb::Status;
 
 fn main(rt: HostRuntime) -> ExitCode {
-    let mut word = [0u8; 20];
-    let length = verb::word(&rt, 2, &mut word);
-    verb::ended(&rt, table(&rt, &word[..length]))
+    let mut room = [0u8; 20];
+    let message = verb::word(&rt, 2, &mut room);
+    verb::ended(&rt, table(&rt, message))
 }
 
 // The whole table, of the time that a message takes, and how that ended.
-fn table(rt: &(impl Env + Print), message: &[u8]) -> io::Result<u8> {
+fn table(rt: &(impl Env + Print), message: &[u8]) -> io::Result<Status> {
     title(rt, message)?;
-    let refused = lines(rt, Seconds::of(number(message)))?;
-    Ok(if refused { verb::REFUSED } else { verb::DONE })
+    let refused = lines(rt, number(message).into())?;
+    Ok(Status::refused_if(refused))
 }
 
 // The number that a word stands for.
 fn number(word: &[u8]) -> u16 {
-    let found = digits::number_in(word);
-    if found < 65535 { found as u16 } else { 65535 }
+    digits::number_in(word).unwrap_or(u16::MAX)
 }
 
 fn title(rt: &impl Print, message: &[u8]) -> io::Result<()> {
@@ -44,37 +44,36 @@ fn title(rt: &impl Print, message: &[u8]) -> io::Result<()> {
 fn lines(rt: &(impl Env + Print), message: Seconds) -> io::Result<bool> {
     let mut refused = false;
     for place in 3..verb::words(rt) {
-        let now = line(rt, place, message)?;
-        refused = refused | now;
+        refused |= line(rt, place, message)?;
     }
     Ok(refused)
 }
 
 // The speed that a word names, as it was typed, and its distances; and whether any was refused.
 fn line(rt: &(impl Env + Print), place: usize, message: Seconds) -> io::Result<bool> {
-    let mut word = [0u8; 20];
-    let length = verb::word(rt, place, &mut word);
-    let speed = number(&word[..length]);
-    let advance = siting::advance(speed, message);
-    let warning = siting::warning(speed, 1);
-    cell(rt, b"     ", &word[..length])?;
-    distance(rt, advance)?;
-    distance(rt, warning)?;
-    distance(rt, siting::warning(speed, 2))?;
-    distance(rt, siting::warning(speed, 3))?;
-    distance(rt, siting::warning(speed, 4))?;
+    let mut room = [0u8; 20];
+    let word = verb::word(rt, place, &mut room);
+    let speed = number(word);
+    cell(rt, b"     ", word)?;
+    let mut refused = distance(rt, siting::advance(speed, message))?;
+    for tracks in 1..=4 {
+        refused |= distance(rt, siting::warning(speed, tracks))?;
+    }
     verb::write(rt, b"\n")?;
-    // For 1 to 4 tracks a warning distance is refused by its speed alone.
-    Ok((advance.answer != DONE) | (warning.answer != DONE))
+    Ok(refused)
 }
 
-// A distance in metres with one decimal, or the number that it is refused with, in eleven columns.
-fn distance(rt: &impl Print, sited: Sited) -> io::Result<()> {
-    if sited.answer != DONE {
-        return verb::write(rt, b"  refused 8");
+// A distance in metres with one decimal, or the number that it is refused with, in eleven columns; and
+// whether it was refused.
+fn distance(rt: &impl Print, sited: Result<Decimetres, Refusal>) -> io::Result<bool> {
+    match sited {
+        Ok(distance) => {
+            let decimetres = u32::from(distance);
+            print!(rt; "{:>7}.{} m", decimetres / 10, decimetres % 10)?;
+        }
+        Err(refusal) => print!(rt; "  refused {}", u8::from(refusal))?,
     }
-    let decimetres = sited.distance.number();
-    print!(rt; "{:>7}.{} m", decimetres / 10, decimetres % 10)
+    Ok(sited.is_err())
 }
 
 // A text at the right end of as many columns as there are blanks.

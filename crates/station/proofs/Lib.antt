@@ -1,3 +1,4 @@
+pub mod Apart
+pub mod Arrays
 pub mod ShownLaws
-pub mod Stations
 pub mod Surveys

@@ -1,5 +1,6 @@
 -- What document 01, "From islands to aspect", asks of a station's tracks, side by side. (Not for belief: each is a definition of `rules`.)
-use Rattle.std.specs.Prelude.{Bool, ◌&&◌, List, leb}
+use Rattle.std.specs.Prelude.{◌+◌, Bool, cond, ◌&&◌, ◌||◌, List, leb}
+use Rattle.islands.specs.declared.Signs.{Signs}
 use Rattle.rules.specs.Aspect.{fresh_advance, fresh_near, present, some_fresh, some_held}
 use Rattle.rules.specs.Words.{any, count}
 use Rattle.rules.specs.declared.Settings.{Settings}
@@ -19,3 +20,14 @@ survey_of c l =
 -- the greatest-risk condition, from what was seen of the tracks
 abbrev pub risky : Survey → Bool
 risky v = v.fresh && leb 2 v.present
+
+-- what was seen of some tracks, with one track more
+abbrev pub with_signs : Survey → Signs → Survey
+with_signs v g =
+    record {
+      fresh = v.fresh || g.fresh;
+      present = v.present + cond g.present 1 0;
+      near = v.near || g.near;
+      ahead = v.ahead || g.ahead;
+      held = v.held || g.held;
+    }

@@ -6,57 +6,50 @@ use crate::making::free_track;
 use rules::{Station, Track};
 
 // The track with this number; past the last one, a free track.
+#[tactic(auto, unfolding(rules::specs::Station::track_at))]
 pub fn track_at(station: Station, number: u8) -> Track
     ensures { result ≡ track_at station number }
 {
-    let tracks = station.tracks;
-    let at = number as usize;
-    if at < 4 {
-        return tracks[at];
-    }
-    free_track()
+    let at = usize::from(number);
+    station.tracks.get(at).copied().unwrap_or(free_track())
 }
 
 // For the crates above alone: it trusts the track that it is handed. The station with it at a number;
 // past the last one, the station as it is.
-pub fn with_track(station: Station, number: u8, track: Track) -> Station
+#[tactic(auto, unfolding(rules::specs::Station::with_track))]
+pub fn with_track(mut station: Station, number: u8, track: Track) -> Station
     ensures { result ≡ with_track station number track }
 {
-    let mut next = station;
-    let at = number as usize;
-    if at < 4 {
-        next.tracks[at] = track;
+    let at = usize::from(number);
+    if at < station.tracks.len() {
+        station.tracks[at] = track;
     }
-    next
+    station
 }
 
 // For the crates above alone: it trusts the condition that it is handed. The station with it at a head;
 // past the last one, the station as it is.
-pub fn with_condition(station: Station, head: u8, condition: u16) -> Station
+#[tactic(auto, unfolding(rules::specs::Station::with_condition))]
+pub fn with_condition(mut station: Station, head: u8, condition: u16) -> Station
     ensures { result ≡ with_condition station head condition }
 {
-    let mut next = station;
-    let at = head as usize;
-    if at < 2 {
-        next.conditions[at] = condition;
+    let at = usize::from(head);
+    if at < station.conditions.len() {
+        station.conditions[at] = condition;
     }
-    next
+    station
 }
 
 // For the crates above alone: it trusts the fault that it is handed.
 pub fn with_fault(station: Station, fault: bool) -> Station
     ensures { result ≡ with_fault station fault }
 {
-    let mut next = station;
-    next.fault = fault;
-    next
+    Station { fault, ..station }
 }
 
 // For the crates above alone: it trusts the hold that it is handed.
 pub fn with_hold(station: Station, hold: u16) -> Station
     ensures { result ≡ with_hold station hold }
 {
-    let mut next = station;
-    next.hold = hold;
-    next
+    Station { hold, ..station }
 }

@@ -8,6 +8,7 @@ mod surveying;
 
 pub use changing::{track_at, with_condition, with_fault, with_hold, with_track};
 pub use making::{least_station, make, settings_answer};
+use rules::Aspect;
 pub use showing::{aspect, heads, presence, settle, zones};
 pub use surveying::{hold_set, is_obstructed};
 
@@ -15,5 +16,5 @@ pub use surveying::{hold_set, is_obstructed};
 #[derive(Clone, Copy)]
 pub struct Settled {
     pub hold: u16,
-    pub aspect: u8,
+    pub aspect: Aspect,
 }

@@ -1,35 +1,32 @@
 // Document 01, "What the station is": how a station is made.
 ghost use Rattle.std.specs.Prelude.{◌≡◌};
+ghost use Rattle.rules.specs.Answered.{answered, made_in};
 ghost use Rattle.rules.specs.Station.{free_track, fresh_station, least_settings, made, settings_answer};
 
-use rules::{DONE, Island, Made, OUTSIDE_LIMITS, Settings, Station, Track};
+use rules::{Island, Refusal, Settings, Station, Track};
 
-// 0, or 8 where a setting is outside its limits.
-pub fn settings_answer(settings: Settings) -> u8
-    ensures { result ≡ settings_answer settings }
+// Whether the settings are within their limits; else 8.
+#[tactic(auto, using(chains::proofs::Chains::in_order), unfolding(rules::specs::Station::settings_answer))]
+pub fn settings_answer(settings: Settings) -> Result<(), Refusal>
+    ensures { answered result ≡ settings_answer settings }
 {
-    let good = islands::within_limits(settings);
-    if good { DONE } else { OUTSIDE_LIMITS }
-}
-
-// A fresh station. Where the settings are refused with 8, one of the least settings.
-pub fn make(settings: Settings) -> Made
-    ensures { result ≡ made settings }
-{
-    let answer = settings_answer(settings);
-    if answer == DONE {
-        return Made {
-            answer,
-            station: fresh_station(settings),
-        };
-    }
-    Made {
-        answer,
-        station: least_station(),
+    if islands::within_limits(settings) {
+        Ok(())
+    } else {
+        Err(Refusal::OutsideLimits)
     }
 }
 
-// A fresh station of the least settings: what is returned where there is no other to return.
+// A fresh station; settings outside their limits are refused with 8.
+#[tactic(auto, unfolding(rules::specs::Station::made))]
+pub fn make(settings: Settings) -> Result<Station, Refusal>
+    ensures { made_in result ≡ made settings }
+{
+    settings_answer(settings)?;
+    Ok(fresh_station(settings))
+}
+
+// A fresh station of the least settings: what stands where there is no other to return.
 pub fn least_station() -> Station
     ensures { result ≡ fresh_station least_settings }
 {
@@ -44,16 +41,16 @@ pub fn least_station() -> Station
     fresh_station(least)
 }
 
+#[tactic(auto, unfolding(rules::specs::Station::fresh_station))]
 fn fresh_station(settings: Settings) -> Station
     ensures { result ≡ fresh_station settings }
 {
-    let track = free_track();
     Station {
         settings,
-        tracks: [track, track, track, track],
+        tracks: [free_track(); 4],
         hold: 0,
         fault: true,
-        conditions: [0, 0],
+        conditions: [0; 2],
     }
 }
 
@@ -66,7 +63,5 @@ pub(crate) fn free_track() -> Track
         failed: false,
         age: 0,
     };
-    Track {
-        islands: [free, free, free, free, free],
-    }
+    Track { islands: [free; 5] }
 }

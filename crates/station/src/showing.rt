@@ -1,170 +1,102 @@
 // What a station shows: its aspect, both heads, its zone digits and its tracks' presence.
-ghost use Rattle.std.specs.Prelude.{◌≡◌, ◌&&◌, ◌||◌, cond, false, [], ◌∷◌, map, ltb, get_or, take};
+ghost use Rattle.std.specs.Prelude.{◌≡◌, ◌&&◌, ◌||◌, ◌<◌, not, cond, ltb};
+ghost use Rattle.rules.specs.Answered.{aspect_number};
 ghost use Rattle.rules.specs.Aspect.{aspect_of, presence_of, present as Aspect·present};
 ghost use Rattle.rules.specs.Heads.{heads_of};
 ghost use Rattle.rules.specs.Printer.{zones_of};
-ghost use Rattle.rules.specs.Station.{island_at, track_at};
-ghost use Rattle.rules.specs.Words.{any, ◌if◌then◌};
-ghost use Rattle.station.specs.Settled.{settled_of};
+ghost use Rattle.rules.specs.Station.{island_at, track_at, within_limits};
+ghost use Rattle.rules.specs.Words.{any};
+ghost use Rattle.station.specs.Settled.{settled_in, settled_of};
 
 use crate::Settled;
 use crate::changing::track_at;
-use crate::surveying::{look_over, risk_in};
-use rules::{
-    CLEARING, FORBIDDEN, GREATEST_RISK, HeadOutputs, OUT_OF_SERVICE, PERMITTED, SURROUNDINGS,
-    Settings, Station, Track, TrackPresence, ZoneDigits,
-};
+use crate::surveying::{live, look_over};
+use rules::{Aspect, HeadOutputs, Station, Track, TrackPresence, ZoneDigits};
+use std::array;
 
-// The aspect, 0 to 5. A station whose settings are outside their limits shows 5.
-pub fn aspect(station: Station) -> u8
-    ensures { result ≡ aspect_of station }
+// The aspect. A station whose settings are outside their limits is out of service.
+#[tactic(auto, using(chains::proofs::Chains::in_order), unfolding(rules::specs::Aspect::aspect_of, rules::specs::Aspect::greatest_risk, crate::specs::Survey::survey_of))]
+pub fn aspect(station: Station) -> Aspect
+    ensures { aspect_number result ≡ aspect_of station }
 {
-    let settings = station.settings;
-    let good = islands::within_limits(settings);
-    let out = !good | station.fault;
-    if out {
-        return OUT_OF_SERVICE;
+    if is_out_of_service(station) {
+        return Aspect::OutOfService;
     }
-    let holding = 0 < station.hold;
-    if holding {
-        return GREATEST_RISK;
+    // told before the tracks are looked over
+    if 0 < station.hold {
+        return Aspect::GreatestRisk;
     }
-    let tracks = station.tracks;
-    let seen = look_over(settings, tracks);
-    let risk = risk_in(seen);
-    lines(risk, seen.near, seen.ahead, seen.held)
+    look_over(&station).aspect(false)
 }
 
 // The hold of a station after an accepted report, and the aspect that it then shows. The tracks are
 // looked over once for both.
+#[tactic(auto, using(chains::proofs::Chains::in_order), unfolding(crate::specs::Settled::settled_of, rules::specs::Reports::hold_set, rules::specs::Aspect::aspect_of, rules::specs::Aspect::greatest_risk, crate::specs::Survey::survey_of))]
 pub fn settle(station: Station) -> Settled
-    ensures { result ≡ settled_of station }
+    ensures { settled_in result ≡ settled_of station }
 {
-    let settings = station.settings;
-    let good = islands::within_limits(settings);
-    let out = !good | station.fault;
-    let tracks = station.tracks;
-    let seen = look_over(settings, tracks);
-    let risk = risk_in(seen);
-    let hold = islands::held_up(risk, settings.t4, station.hold);
-    let line = first_line(out, risk | (0 < hold), seen.near, seen.ahead, seen.held);
-    Settled { hold, aspect: line }
+    let seen = look_over(&station);
+    let hold = islands::held_up(seen.greatest_risk(), station.settings.t4, station.hold);
+    let aspect = if is_out_of_service(station) {
+        Aspect::OutOfService
+    } else {
+        seen.aspect(0 < hold)
+    };
+    Settled { hold, aspect }
 }
 
-fn first_line(out: bool, risk: bool, near: bool, ahead: bool, held: bool) -> u8
-    ensures { result ≡ (5 if out then 3 if risk then 2 if near then 1 if ahead then 4 if held then 0) }
+fn is_out_of_service(station: Station) -> bool
+    ensures { result ≡ (not (within_limits station.settings) || station.fault) }
 {
-    if out {
-        return OUT_OF_SERVICE;
-    }
-    lines(risk, near, ahead, held)
-}
-
-// The lines of the rule after the first, in their order.
-fn lines(risk: bool, near: bool, ahead: bool, held: bool) -> u8
-    ensures { result ≡ (3 if risk then 2 if near then 1 if ahead then 4 if held then 0) }
-{
-    if risk {
-        return GREATEST_RISK;
-    }
-    if near {
-        return FORBIDDEN;
-    }
-    if ahead {
-        return CLEARING;
-    }
-    if held {
-        return SURROUNDINGS;
-    }
-    PERMITTED
+    !islands::within_limits(station.settings) || station.fault
 }
 
 // What each head shows.
+#[tactic(auto, unfolding(rules::specs::Heads::heads_of))]
 pub fn heads(station: Station) -> HeadOutputs
     ensures { result ≡ heads_of station }
 {
-    let outputs = signal::outputs(aspect(station));
-    let conditions = station.conditions;
-    [
-        signal::head(outputs, conditions[0]),
-        signal::head(outputs, conditions[1]),
-    ]
+    let outputs = signal::outputs(aspect(station).into());
+    station
+        .conditions
+        .map(|condition| signal::head(outputs, condition))
 }
 
 // The five zone digits in island order: 0 where any track occupies it, else 1.
+#[tactic(auto, unfolding(rules::specs::Printer::zones_of))]
 pub fn zones(station: Station) -> ZoneDigits
     ensures { result ≡ zones_of station }
 {
-    let settings = station.settings;
-    let tracks = station.tracks;
-    let good = islands::within_limits(settings);
-    if good {
-        let occupied = occupied_zones(settings, tracks);
-        return [
-            digit(occupied[0]),
-            digit(occupied[1]),
-            digit(occupied[2]),
-            digit(occupied[3]),
-            digit(occupied[4]),
-        ];
+    if !islands::within_limits(station.settings) {
+        return [0; 5];
     }
-    [0, 0, 0, 0, 0]
+    let tracks = live(&station);
+    array::from_fn(|zone| zone_digit(tracks, zone))
 }
 
-fn digit(occupied: bool) -> u8
-    ensures { result ≡ cond occupied 0 1 }
+fn zone_digit(tracks: &[Track], zone: usize) -> u8
+    requires { zone < 5 }
+    ensures { result ≡ cond (any (λ t. (island_at t zone).occupied) tracks.now) 0 1 }
 {
-    if occupied { 0 } else { 1 }
-}
-
-// Which zones some live track occupies. Each track is looked at once.
-fn occupied_zones(settings: Settings, tracks: [Track; 4]) -> [bool; 5]
-    ensures { result ≡ map (λ k. any (λ t. (island_at t k).occupied) (take settings.tracks tracks)) (0 ∷ 1 ∷ 2 ∷ 3 ∷ 4 ∷ []) }
-{
-    let live = islands::live_tracks(settings.tracks);
-    let mut occupied = [false, false, false, false, false];
-    let mut j: usize = 0;
-    while j < live {
-        let next = occupied_too(occupied, tracks[j]);
-        occupied = next;
-        j += 1;
-    }
-    occupied
-}
-
-// These zones, and those that the track occupies.
-fn occupied_too(zones: [bool; 5], track: Track) -> [bool; 5]
-    ensures { result ≡ map (λ k. get_or zones k false || (island_at track k).occupied) (0 ∷ 1 ∷ 2 ∷ 3 ∷ 4 ∷ []) }
-{
-    let islands = track.islands;
-    [
-        zones[0] | islands[0].occupied,
-        zones[1] | islands[1].occupied,
-        zones[2] | islands[2].occupied,
-        zones[3] | islands[3].occupied,
-        zones[4] | islands[4].occupied,
-    ]
+    let occupied = tracks.iter().any(|track| track.islands[zone].occupied);
+    u8::from(!occupied)
 }
 
 // Which tracks count for the greatest risk.
+#[tactic(auto, unfolding(rules::specs::Aspect::presence_of))]
 pub fn presence(station: Station) -> TrackPresence
     ensures { result ≡ presence_of station }
 {
-    let good = islands::within_limits(station.settings);
-    if good {
-        return [
-            present(station, 0),
-            present(station, 1),
-            present(station, 2),
-            present(station, 3),
-        ];
+    if !islands::within_limits(station.settings) {
+        return [true; 4];
     }
-    [true, true, true, true]
+    [0, 1, 2, 3].map(|number| is_present(station, number))
 }
 
-fn present(station: Station, number: u8) -> bool
+#[tactic(auto, unfolding(islands::specs::Signs::signs_of))]
+fn is_present(station: Station, number: u8) -> bool
     ensures { result ≡ (ltb number station.settings.tracks && Aspect·present station.settings (track_at station number)) }
 {
     let signs = islands::signs_of(station.settings, track_at(station, number));
-    (number < station.settings.tracks) & signs.present
+    number < station.settings.tracks && signs.present
 }

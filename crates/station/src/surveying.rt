@@ -1,89 +1,106 @@
 // Document 01, "From islands to aspect": the signs of the tracks below the station's number.
-ghost use Rattle.std.specs.Prelude.{◌≡◌, take};
+ghost use Rattle.std.specs.Prelude.{◌≡◌, ◌+◌, ◌^◌, ◌<◌, ◌||◌};
+ghost use Rattle.rules.specs.Answered.{aspect_number};
 ghost use Rattle.rules.specs.Reports.{hold_set};
-ghost use Rattle.rules.specs.Station.{obstructed};
-ghost use Rattle.station.specs.Survey.{risky, survey_of};
+ghost use Rattle.rules.specs.Station.{live, obstructed};
+ghost use Rattle.rules.specs.Words.{◌if◌then◌};
+ghost use Rattle.station.specs.Survey.{risky, survey_of, with_signs};
 
-use rules::{Settings, Station, Track};
+use islands::Signs;
+use rules::{Aspect, Station, Track};
 
 // The tracks' signs together, and how many tracks count for the greatest risk.
-#[derive(Clone, Copy)]
+#[derive(Clone, Copy, Default)]
 pub(crate) struct Survey {
     pub fresh: bool,
-    pub present: u8,
+    pub present: usize,
     pub near: bool,
     pub ahead: bool,
     pub held: bool,
 }
 
-pub(crate) fn look_over(settings: Settings, tracks: [Track; 4]) -> Survey
-    ensures { result ≡ survey_of settings (take settings.tracks tracks) }
-{
-    let live = islands::live_tracks(settings.tracks);
-    let mut fresh = false;
-    let mut present: u8 = 0;
-    let mut near = false;
-    let mut ahead = false;
-    let mut held = false;
-    let mut j: usize = 0;
-    while j < live {
-        let signs = islands::signs_of(settings, tracks[j]);
-        fresh = fresh | signs.fresh;
-        present = present + signs.present as u8;
-        near = near | signs.near;
-        ahead = ahead | signs.ahead;
-        held = held | signs.held;
-        j += 1;
+impl Survey {
+    // With the signs of one track more. They are all there: `|`, which does not jump.
+    fn with(self, signs: Signs) -> Self
+        requires { self.present + 1 < 2 ^ 64 }
+        ensures { result ≡ with_signs self signs }
+    {
+        Self {
+            fresh: self.fresh | signs.fresh,
+            present: self.present + usize::from(signs.present),
+            near: self.near | signs.near,
+            ahead: self.ahead | signs.ahead,
+            held: self.held | signs.held,
+        }
     }
-    Survey {
-        fresh,
-        present,
-        near,
-        ahead,
-        held,
+
+    // The greatest-risk condition.
+    pub(crate) fn greatest_risk(self) -> bool
+        ensures { result ≡ risky self }
+    {
+        self.fresh && 2 <= self.present
+    }
+
+    // The lines of the rule after the first, in their order.
+    #[tactic(auto, using(chains::proofs::Chains::in_order))]
+    pub(crate) fn aspect(self, holding: bool) -> Aspect
+        ensures { aspect_number result ≡ (3 if risky self || holding then 2 if self.near then 1 if self.ahead then 4 if self.held then 0) }
+    {
+        if self.greatest_risk() || holding {
+            Aspect::GreatestRisk
+        } else if self.near {
+            Aspect::Forbidden
+        } else if self.ahead {
+            Aspect::Clearing
+        } else if self.held {
+            Aspect::Surroundings
+        } else {
+            Aspect::Permitted
+        }
     }
 }
 
-// The greatest-risk condition.
-pub(crate) fn greatest_risk(settings: Settings, tracks: [Track; 4]) -> bool
-    ensures { result ≡ risky (survey_of settings (take settings.tracks tracks)) }
+// The tracks below the station's number.
+pub(crate) fn live(station: &Station) -> &[Track]
+    ensures { result.now ≡ live station.now }
 {
-    risk_in(look_over(settings, tracks))
+    let tracks: &[Track] = &station.tracks;
+    let number = usize::from(station.settings.tracks);
+    tracks.get(..number).unwrap_or(tracks)
 }
 
-pub(crate) fn risk_in(seen: Survey) -> bool
-    ensures { result ≡ risky seen }
+// Each of them is looked at once.
+#[inline(always)]
+#[tactic(auto, using(crate::proofs::Surveys::one_more), unfolding(crate::specs::Survey::survey_of))]
+pub(crate) fn look_over(station: &Station) -> Survey
+    ensures { result ≡ survey_of station.now.settings (live station.now) }
 {
-    seen.fresh & (2 <= seen.present)
+    let tracks = live(station);
+    let mut seen = Survey::default();
+    for track in tracks {
+        seen = seen.with(islands::signs_of(station.settings, *track));
+    }
+    seen
 }
 
 // The station after a tick or an accepted report: with the hold set, if the greatest-risk condition
 // is then true.
+#[tactic(auto, unfolding(rules::specs::Reports::hold_set, rules::specs::Aspect::greatest_risk, crate::specs::Survey::survey_of))]
 pub fn hold_set(station: Station) -> Station
     ensures { result ≡ hold_set station }
 {
-    let settings = station.settings;
-    let tracks = station.tracks;
-    let risk = greatest_risk(settings, tracks);
-    let mut next = station;
-    next.hold = islands::held_up(risk, settings.t4, station.hold);
-    next
+    let risk = look_over(&station).greatest_risk();
+    Station {
+        hold: islands::held_up(risk, station.settings.t4, station.hold),
+        ..station
+    }
 }
 
 // Whether any island is occupied or any detector has failed.
+#[tactic(auto, unfolding(rules::specs::Station::obstructed))]
 pub fn is_obstructed(station: Station) -> bool
     ensures { result ≡ obstructed station }
 {
-    let live = islands::live_tracks(station.settings.tracks);
-    let tracks = station.tracks;
-    let mut occupied = false;
-    let mut failed = false;
-    let mut j: usize = 0;
-    while j < live {
-        let track = tracks[j];
-        occupied = occupied | islands::some_occupied(track);
-        failed = failed | islands::some_failed(track);
-        j += 1;
-    }
-    occupied | failed
+    live(&station).iter().any(|track| islands::some_occupied(*track)
+        || islands::some_failed(*track))
 }

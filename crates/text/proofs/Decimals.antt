@@ -59,33 +59,24 @@ digits_length : (k n : ℕ) → length (final_digits k n) ≡ k
 digits_length zero n = refl
 digits_length (suc k) n = rw length-append (omega (arith, digits_length k (n / 10)))
 
-at_least : (more least n : ℕ) → least ≤ places_from more least n
-at_least zero least n = omega arith
-at_least (suc more) least n =
-    by_test (λ k. least ≤ k) (ltb n (10 ^ least)) (λ t. omega arith) (λ t. omega (arith, at_least more (suc least) n))
-
 at_most : (more least n k : ℕ) → least ≤ k → n < 10 ^ k → places_from more least n ≤ k
 at_most zero least n k h s = h
 at_most (suc more) least n k h s =
     by_test (λ r. r ≤ k) (ltb n (10 ^ least)) (λ t. h)
     (λ t. at_most more (suc least) n k (above least n k h s (ltb-false n (10 ^ least) t)) s)
 
-pub at_most_twenty : (n r : ℕ) → n < 10 ^ 20 → IsDigitCount 10 1 n r → r ≤ 20
-at_most_twenty n r h f = omega (arith, fewest 20 1 n r (omega arith) f, at_most 20 1 n 20 (omega arith) h)
-
 -- at most k digits below ten to the k
 pub decimal_most : (n k : ℕ) → 1 ≤ k → n < 10 ^ k → length (decimal n) ≤ k
 unfolding decimal
 decimal_most n k h s = rw digits_length (at_most 20 1 n k h s)
 
-pub decimal_one : (n : ℕ) → n < 10 → length (decimal n) ≡ 1
-unfolding decimal
-decimal_one n s = rw digits_length (omega (arith, at_least 20 1 n, at_most 20 1 n 1 (omega arith) s))
-
--- and that one is the number itself
+-- and one below ten, the number itself
 pub decimal_digit : (n : ℕ) → n < 10 → decimal n ≡ (48 + n) ∷ []
 unfolding decimal
 decimal_digit n s =
     let last : n % 10 ≡ n = omega arith in
     ap (λ (b : Bool). final_digits (cond b 1 (places_from 19 2 n)) n) (lt-ltb n 10 s)
     ∙ ap (λ (d : ℕ). (48 + d) ∷ []) last
+
+pub decimal_one : (n : ℕ) → n < 10 → length (decimal n) ≡ 1
+decimal_one n s = ap length (decimal_digit n s)

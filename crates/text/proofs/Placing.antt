@@ -1,15 +1,22 @@
 -- Texts placed in a buffer one after the other are the joined text at its start.
 use mathlib.Core.Path.{◌≡◌, refl, ◌∙◌, sym, ap, subst}
-use mathlib.Core.Bool.{Bool, true, false, cond}
+use mathlib.Core.Bool.{Bool, cond}
 use mathlib.Core.List.{List, [], ◌++◌, append_assoc, append-nil}
 use Prim.Native.Nat.{ℕ, ◌+◌, ◌≤◌, ◌<◌}
 use native.Mathlib.Omega.{arith}
-use lib.ListN.{length, take, drop, drop_of_length-le, length-append, length-drop}
-use lib.Seq.{drop-append-add, drop-drop, length-take-le, take-append_seam, take-length}
+use lib.ListN.{get_or, take, length, drop, drop_of_length-le, length-append, length-drop}
+use lib.Seq.{drop-append-add, drop-drop, length-take-le, take-append_seam, take-length, take_all}
 use borrow.Author.Tests.{le-leb, lt-leb}
 use Rattle.io.specs.Counts.{IsPrefixLen}
-use Rattle.rules.specs.Printer.{fits, length_written, written}
+use Rattle.rules.specs.Printer.{written}
+use Rattle.std.proofs.lemmas.Option.{same_Some}
+use Rattle.std.specs.List.{flat_map}
+use Rattle.std.specs.Option.{is_some}
+use denote.Ref.{Bor}
+use Rattle.std.specs.Prelude.{IfSome, IsSome, Option, None, Some}
+use Rattle.text.specs.Texts.{length_where_it_fits}
 use Rattle.rules.specs.Words.{put}
+use Rattle.std.proofs.lemmas.List.Folds.{length-flat_map-take}
 
 -- b with a text at its start
 abbrev pub begun : List ℕ → List ℕ → List ℕ
@@ -41,78 +48,59 @@ further {x} {b} y w e =
 pub still_long : {x b b' : List ℕ} {at : ℕ} → length x ≤ length b → Begun x b at b' → length b' ≡ length b
 still_long {x} {b} h w = ap length w.bytes ∙ simp (length-append, length-drop) (omega arith)
 
--- where the whole fits
-pub fitted :
-    {text b b' : List ℕ} {at : ℕ} → length text ≤ length b → Begun text b at b'
-    → (at ≡ length_written text b) × (b' ≡ written text b)
-unfolding written length_written
-fitted {text} {b} h w = rw (le-leb (length text) (length b) h) (w.past, w.bytes)
+-- where the whole fits, and where it does not
+pub length_fitted : (text b : List ℕ) → length text ≤ length b → length_where_it_fits text b ≡ Some (length text)
+unfolding length_where_it_fits
+length_fitted text b h = ap (λ (t : Bool). cond t (Some (length text)) None) (le-leb (length text) (length b) h)
 
--- where it does not
-pub unfitted : (text b : List ℕ) → length b < length text → (0 ≡ length_written text b) × (b ≡ written text b)
-unfolding written length_written
-unfitted text b h = rw (lt-leb (length text) (length b) h) (refl, refl)
+pub length_unfitted : (text b : List ℕ) → length b < length text → length_where_it_fits text b ≡ None
+unfolding length_where_it_fits
+length_unfitted text b h = ap (λ (t : Bool). cond t (Some (length text)) None) (lt-leb (length text) (length b) h)
+
+pub bytes_fitted : (text b : List ℕ) → length text ≤ length b → written text b ≡ begun text b
+unfolding written
+bytes_fitted text b h = ap (λ (t : Bool). cond t (begun text b) b) (le-leb (length text) (length b) h)
+
+pub bytes_unfitted : (text b : List ℕ) → length b < length text → written text b ≡ b
+unfolding written
+bytes_unfitted text b h = ap (λ (t : Bool). cond t (begun text b) b) (lt-leb (length text) (length b) h)
 
 -- what is promised of the number answered and of the buffer afterwards; the last part follows from the others, and is
 -- there for callers
-abbrev pub Told : List ℕ → List ℕ → ℕ → List ℕ → Type 0
+abbrev pub Told : List ℕ → List ℕ → Option ℕ → List ℕ → Type 0
 Told text b r b' =
-    record { value : r ≡ length_written text b; out_after : b' ≡ written text b; prefix_len : IsPrefixLen r b' }
-
-counted : (text b : List ℕ) → length_written text b ≤ length (written text b)
-unfolding written length_written
-counted text b = go (fits text b) refl
-  where
-    go : (t : Bool) → fits text b ≡ t → cond t (length text) 0 ≤ length (cond t (begun text b) b)
-    go true e = simp (length-append, length-drop) (omega arith)
-    go false e = omega arith
-
-pub told : (text b : List ℕ) {b' : List ℕ} {r : ℕ} → (r ≡ length_written text b) × (b' ≡ written text b)
-    → Told text b r b'
-told text b {b'} {r} e = record { value = e.0; out_after = e.1; prefix_len = (within, counts r b' within) }
-  where
-    within : r ≤ length b'
-    within = omega (arith, counted text b, e.0, ap length e.1)
-
-    counts : (n : ℕ) (l : List ℕ) → n ≤ length l → n ≡ length (take n l)
-    counts n l h = sym (length-take-le n l h)
-
--- where it is known to fit
-pub fit : (text b : List ℕ) {b' : List ℕ} {r : ℕ} → length text ≤ length b → Told text b r b'
-    → (r ≡ length text) × (b' ≡ begun text b)
-unfolding written length_written
-fit text b h t =
-    let yes = le-leb (length text) (length b) h in (
-      t.value ∙ ap (λ (q : Bool). cond q (length text) 0) yes,
-      t.out_after
-          ∙ ap (λ (q : Bool). cond q (begun text b) b) yes,
-    )
-
--- where it fills the buffer
-pub filled : (text b : List ℕ) {b' : List ℕ} {r : ℕ} → length text ≡ length b → Told text b r b' → b' ≡ text
-filled text b {b'} e t =
-    let none = drop_of_length-le b {i = length text} (omega arith) in
-    (fit text b (omega arith) t).1 ∙ ap (λ (l : List ℕ). text ++ l) none ∙ append-nil text
+    record {
+      value : r ≡ length_where_it_fits text b;
+      out_after : b' ≡ written text b;
+      prefix_len : IfSome r (λ n. IsPrefixLen n b');
+    }
 
 -- what is said of a text is said of the line that it is
-pub written_as : (b : List ℕ) {text line b' : List ℕ} {r : ℕ} → text ≡ line → Told text b r b' → Told line b r b'
+pub written_as : (b : List ℕ) {text line b' : List ℕ} {r : Option ℕ} → text ≡ line → Told text b r b'
+    → Told line b r b'
 written_as b {b'} {r} e = subst (λ t. Told t b r b') e
 
--- a text copied over the start of a buffer, and what a part of the buffer that long then is
-pub copied_over :
-    (word b : List ℕ) {part b' : List ℕ} {r : ℕ} → part ≡ word → r ≡ length part
-    → b' ≡ take (length part) part ++ drop (length part) b
-    → (r ≡ length word) × ((b' ≡ begun word b) × (IsPrefixLen r b' × (take r b' ≡ word)))
-copied_over word b {part} {b'} {r} e n h = (size, (whole, ((long, sym (ap length same ∙ sym size)), same)))
-  where
-    size : r ≡ length word
-    size = n ∙ ap length e
+-- where it is known to fit: there is a length, and it is the text's
+pub there : (text b : List ℕ) {r : Option ℕ} {b' : List ℕ} → length text ≤ length b → Told text b r b' → IsSome r
+there text b h told = ap is_some (told.value ∙ length_fitted text b h)
 
-    whole : b' ≡ begun word b
-    whole = h ∙ ap (λ (l : List ℕ). l ++ drop (length part) b) (take-length part) ∙ ap (λ (l : List ℕ). begun l b) e
+pub fit : (text b : List ℕ) {r : Option ℕ} {n : ℕ} {b' : List ℕ} → length text ≤ length b → r ≡ Some n
+    → Told text b r b'
+    → (n ≡ length text) × (b' ≡ begun text b)
+fit text b {n = n} h e told =
+    (same_Some n (length text) (sym e ∙ told.value ∙ length_fitted text b h), told.out_after ∙ bytes_fitted text b h)
 
-    same : take r b' ≡ word
-    same = rw (size, whole) (take-append_seam word (drop (length word) b))
+-- where it fills the buffer
+pub filled : (text b : List ℕ) {r : Option ℕ} {b' : List ℕ} → length text ≡ length b → Told text b r b' → b' ≡ text
+filled text b e told =
+    let none = drop_of_length-le b {i = length text} (omega arith) in
+    told.out_after ∙ bytes_fitted text b (omega arith) ∙ ap (λ (l : List ℕ). text ++ l) none ∙ append-nil text
 
-    long : r ≤ length b'
-    long = omega (arith, size, ap length whole, length-append word (drop (length word) b))
+-- each text is within the whole, with those before it
+pub within : (texts : List (Bor (List ℕ))) (i : ℕ) (d : Bor (List ℕ)) → i < length texts
+    → length (flat_map (λ t. t.now) (take i texts)) + length (get_or texts i d).now
+    ≤ length (flat_map (λ (t : Bor (List ℕ)). t.now) texts)
+within texts i d h = length-flat_map-take (λ t. t.now) texts i d h
+
+-- what `in_a_row` needs of its texts
+pub ruleset fitting = (bytes_fitted, bytes_unfitted, length_fitted, length_unfitted, take_all, within)

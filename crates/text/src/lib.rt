@@ -1,60 +1,35 @@
-// Texts one after the other in a buffer that the caller lends. What io::decimal writes is the number as
-// the definitions have it: proofs/Decimals.
+// Texts in buffers: several one after the other in one that the caller lends, and a number's digits in one of
+// its own.
 #![tactic(auto)]
 
-ghost use Rattle.std.specs.Prelude.{◌++◌, ◌≡◌, ◌+◌, ◌≤◌, length};
+mod decimal;
+
+ghost use Rattle.std.specs.Prelude.{◌≡◌, IfSome};
+ghost use Rattle.std.specs.List.{flat_map};
 ghost use Rattle.io.specs.Counts.{IsPrefixLen};
-ghost use Rattle.rules.specs.Printer.{length_written, written};
-ghost use Rattle.rules.specs.Words.{put as Words·put};
+ghost use Rattle.rules.specs.Printer.{written};
+ghost use Rattle.text.specs.Texts.{length_where_it_fits};
 
-// Writes five texts, one after the other, at the start of out, and answers how many bytes they are.
-// Where they do not fit, nothing is written and the answer is 0. Their lengths are taken off the
-// room one by one: a sum of them could wrap.
-pub fn in_a_row(
-    out: &mut [u8],
-    first: &[u8],
-    second: &[u8],
-    third: &[u8],
-    fourth: &[u8],
-    fifth: &[u8],
-) -> usize
-    ensures value { result ≡ length_written (first.now ++ second.now ++ third.now ++ fourth.now ++ fifth.now) out.old }
-    ensures out_after { out.new ≡ written (first.now ++ second.now ++ third.now ++ fourth.now ++ fifth.now) out.old }
-    ensures prefix_len { IsPrefixLen result out.new }
-{
-    let room = out.len();
-    if room < first.len() {
-        return 0;
-    }
-    let after_first = room - first.len();
-    if after_first < second.len() {
-        return 0;
-    }
-    let after_second = after_first - second.len();
-    if after_second < third.len() {
-        return 0;
-    }
-    let after_third = after_second - third.len();
-    if after_third < fourth.len() {
-        return 0;
-    }
-    let after_fourth = after_third - fourth.len();
-    if after_fourth < fifth.len() {
-        return 0;
-    }
-    let past_first = put(out, 0, first);
-    let past_second = put(out, past_first, second);
-    let past_third = put(out, past_second, third);
-    let past_fourth = put(out, past_third, fourth);
-    put(out, past_fourth, fifth)
-}
+pub use decimal::Decimal;
 
-// Puts a text into out from index `at` on, and answers the index past it.
-fn put(out: &mut [u8], at: usize, text: &[u8]) -> usize
-    requires { at + length text.now ≤ length out.old }
-    ensures value { result ≡ at + length text.now }
-    ensures out_after { out.new ≡ Words·put at text.now out.old }
+// Writes texts, one after the other, at the start of out, and answers how many bytes they are. Where they do
+// not fit there is no answer, and nothing is written. Their lengths are taken off the room one by one: a sum of
+// them could wrap. (That the length counts bytes of out follows from the rest; it is said so that a caller's
+// &out[..length] needs no proof.)
+#[tactic(auto, using(crate::proofs::Placing::fitting))]
+pub fn in_a_row(out: &mut [u8], texts: &[&[u8]]) -> Option<usize>
+    ensures value { result ≡ length_where_it_fits (flat_map (λ t. t.now) texts.now) out.old }
+    ensures out_after { out.new ≡ written (flat_map (λ t. t.now) texts.now) out.old }
+    ensures prefix_len { IfSome result (λ n. IsPrefixLen n out.new) }
 {
-    out[at..at + text.len()].copy_from_slice(text);
-    at + text.len()
+    let mut room = out.len();
+    for text in texts {
+        room = room.checked_sub(text.len())?;
+    }
+    let mut at = 0;
+    for text in texts {
+        out[at..at + text.len()].copy_from_slice(text);
+        at += text.len();
+    }
+    Some(at)
 }

@@ -16,14 +16,21 @@ use std::process::ExitCode;
 use std::rt::Files;
 use std::{fs, io};
 
-// All was done; something was refused; the input cannot be read; the output cannot be written.
-pub const DONE: u8 = 0;
+// How it went: all was done; something was refused; the input cannot be read; the output cannot be written.
+#[derive(Clone, Copy, Debug, PartialEq, Eq)]
+pub enum Status {
+    Done = 0,
+    Refused = 1,
+    NotRead = 2,
+    NotWritten = 3,
+}
 
-pub const REFUSED: u8 = 1;
-
-const NOT_READ: u8 = 2;
-
-const NOT_WRITTEN: u8 = 3;
+impl Status {
+    // Where something was refused, or else nothing was.
+    pub fn refused_if(refused: bool) -> Self {
+        if refused { Self::Refused } else { Self::Done }
+    }
+}
 
 // What a shell has as the status of a program that a closed pipe stopped.
 const PIPE_CLOSED: u8 = 141;
@@ -36,30 +43,19 @@ const WRITABLE: u32 = 0o200;
 
 // How many words the program was started with, its own name among them.
 pub fn words(rt: &impl Env) -> usize {
-    for place in 0..usize::MAX {
-        if matches!(rt.arg(place, &mut []), Err(FillError::NotPresent)) {
-            return place;
-        }
-    }
-    usize::MAX
+    let is_none = |&place: &usize| matches!(rt.arg(place, &mut []), Err(FillError::NotPresent));
+    (0..usize::MAX).find(is_none).unwrap_or(usize::MAX)
 }
 
-// Puts a word at the start of the room, and answers its length. It is 0 also where there is no such word,
-// and where the word is longer than the room. Word 0 is the program's name.
-pub fn word(rt: &impl Env, place: usize, room: &mut [u8]) -> usize
-    ensures in_bounds { result ≤ length room.new }
-{
-    match rt.arg(place, room) {
-        Ok(length) => length,
-        Err(_) => 0,
-    }
+// A word, in the room that is lent for it. It is empty also where there is no such word, and where the word
+// is longer than the room. Word 0 is the program's name.
+pub fn word<'a>(rt: &impl Env, place: usize, room: &'a mut [u8]) -> &'a [u8] {
+    let length = rt.arg(place, room).unwrap_or(0);
+    &room[..length]
 }
 
-// Reads standard input until the room is full, the input ends or it cannot be read on, and answers how
-// many bytes were put at the start of the room.
-pub fn read(rt: &impl Input, room: &mut [u8]) -> usize
-    ensures in_bounds { result ≤ length room.new }
-{
+// What standard input gives until the room that is lent for it is full, the input ends or it cannot be read on.
+pub fn read<'a>(rt: &impl Input, room: &'a mut [u8]) -> &'a [u8] {
     let mut reader = rt.reader();
     let mut done = 0;
     while done < room.len() {
@@ -68,7 +64,7 @@ pub fn read(rt: &impl Input, room: &mut [u8]) -> usize
             Ok(count) => done += count,
         }
     }
-    done
+    &room[..done]
 }
 
 // Whether the input, read as far as it went, ended because it could not be read on: a reading that
@@ -80,7 +76,7 @@ pub fn input_failed(rt: &(impl Input + Env + Eprint + Files)) -> bool {
         Ok(_) => false,
         Err(error) => {
             fail(rt, "the input cannot be read", error);
-            say(rt, NOT_READ);
+            say(rt, Status::NotRead);
             true
         }
     }
@@ -103,7 +99,7 @@ pub fn tell_number(rt: &impl Eprint, number: usize) {
 
 // The end of a verb, with its status where its output was all written, and the program's own status,
 // which is 0. A reader that had enough is no news: the program ends as if it were stopped by that.
-pub fn ended(rt: &(impl Env + Eprint + Files), went: io::Result<u8>) -> ExitCode {
+pub fn ended(rt: &(impl Env + Eprint + Files), went: io::Result<Status>) -> ExitCode {
     match went {
         Ok(status) => say(rt, status),
         Err(error) => {
@@ -111,7 +107,7 @@ pub fn ended(rt: &(impl Env + Eprint + Files), went: io::Result<u8>) -> ExitCode
                 return ExitCode::from(PIPE_CLOSED);
             }
             fail(rt, "the output cannot be written", error);
-            say(rt, NOT_WRITTEN);
+            say(rt, Status::NotWritten);
         }
     }
     ExitCode::SUCCESS
@@ -137,10 +133,8 @@ fn words_alone(shown: &[u8]) -> &str {
     }
 }
 
-fn say(rt: &(impl Env + Files), status: u8) {
-    let mut first = [0u8; 1];
-    let length = word(rt, 1, &mut first);
-    if length == 1 && first[0] == b'3' {
+fn say(rt: &(impl Env + Files), status: Status) {
+    if word(rt, 1, &mut [0u8; 1]) == b"3".as_slice() {
         // Where it cannot be said, the program looks like one that was stopped.
         let _ = digit(rt, status);
     }
@@ -148,16 +142,11 @@ fn say(rt: &(impl Env + Files), status: u8) {
 
 // Writes the digit at the end of what is there, so that a file keeps what it has. A descriptor that can
 // only be read is left alone, though by its name its file could be written.
-fn digit(rt: &impl Files, status: u8) -> io::Result<()> {
+fn digit(rt: &impl Files, status: Status) -> io::Result<()> {
     let mode = fs::symlink_metadata(rt, STATUS)?.permissions().mode();
     if mode & WRITABLE == 0 {
         return Ok(());
     }
     let mut file = OpenOptions::new().append(true).open(rt, STATUS)?;
-    file.write_all(match status {
-        DONE => b"0",
-        REFUSED => b"1",
-        NOT_READ => b"2",
-        _ => b"3",
-    })
+    file.write_all(&[b'0' + status as u8])
 }

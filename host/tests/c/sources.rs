@@ -132,11 +132,26 @@ pub fn functions_in_source(source: &str) -> Declared {
     words.split("fn degvuurel_").skip(1).filter_map(declared).collect()
 }
 
-/// The numbers that a source gives names to: `pub const HEADER: usize = 16;`.
+/// The numbers that a source gives names to: `pub const HEADER: usize = 16;`, and the cases of an enum, `NoSuchKind = 1,`, which
+/// elsewhere are called `NO_SUCH_KIND`.
 pub fn constants_in_source(source: &str) -> BTreeMap<String, String> {
     let constant = |line: &str| {
         let (name, rest) = line.strip_prefix("pub const ")?.split_once(": ")?;
         Some((name.to_string(), rest.split_once(" = ")?.1.trim_end_matches(';').to_string()))
     };
-    source.lines().filter_map(constant).collect()
+    let case = |line: &str| {
+        let (name, number) = line.strip_prefix("    ")?.strip_suffix(',')?.split_once(" = ")?;
+        let plain = name.chars().all(char::is_alphanumeric) && number.chars().all(|digit| digit.is_ascii_digit());
+        plain.then(|| (in_capitals(name), number.to_string()))
+    };
+    source.lines().filter_map(|line| constant(line).or_else(|| case(line))).collect()
+}
+
+/// The name of an enum's case as constants are written: `NO_SUCH_KIND` of `NoSuchKind`.
+fn in_capitals(name: &str) -> String {
+    let parted = name.chars().enumerate().flat_map(|(place, letter)| {
+        let gap = (place > 0 && letter.is_uppercase()).then_some('_');
+        gap.into_iter().chain(letter.to_uppercase())
+    });
+    parted.collect()
 }

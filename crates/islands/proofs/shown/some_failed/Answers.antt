@@ -1,15 +1,15 @@
--- `some_failed`: some island of five, as the law for any test of islands has it.
-use Rattle.islands.proofs.Islands.{any_of_five}
-use Rattle.islands.proofs.Listed.{counted}
+-- `some_failed`: what the library's `any` finds.
+use Rattle.std.proofs.Common.{rules, tests, ◌∙◌}
+use Rattle.std.proofs.lemmas.Iterator.{YieldsList-from_slice}
+use Rattle.std.proofs.lemmas.Iterator.Search.{any_from_yields_List}
+use Rattle.islands.proofs.Islands.{any_is}
 use Rattle.rules.specs.Station.{some_failed}
 use Rattle.rules.specs.declared.Island.{Island}
-use mathlib.Core.Path.{◌≡◌}
-use lib.ListN.{length}
-use borrow.Author.Rules.{rules}
 use Rattle.islands.proofs.shown.some_failed.Goals as goal
 
 pub returns : goal.returns
 unfolding some_failed
-returns c = let t = c.args.track in
-    let len : length t.islands ≡ 5 = search (rules, counted) in
-    any_of_five (λ (i : Island). i.failed) t len
+returns c = let islands = c.args.track.islands in
+    any_from_yields_List (λ (i : Island). i.failed) _ _ _ c.any.ensures.ran (YieldsList-from_slice islands cc)
+    (λ x b q k. search (rules, tests))
+    ∙ any_is (λ i. i.failed) islands

@@ -1,20 +1,25 @@
 -- `digits`: the run of digits from each place passed ends where that from the first one does.
-use mathlib.Core.Path.{refl}
-use Rattle.json_reader.proofs.Leading.{run_on, run_over, text_over}
-use Rattle.rules_json.specs.Grammar.{digit}
-use Rattle.rules_json.specs.Reader.{digits}
+use mathlib.Core.Path.{sym, ◌∙◌}
+use native.Mathlib.Omega.{arith}
+use Rattle.json_reader.proofs.Leading.{digits_on, no_digit, other_digit}
 use Rattle.json_reader.proofs.octets.digits.Goals as goal
 
-pub loop-past-init : goal.loop-past-init
-loop-past-init c = refl
+pub returns-then-not-is_ascii_digit : goal.returns-then-not-is_ascii_digit
+returns-then-not-is_ascii_digit c =
+    c.then_some.ensures
+    ∙ other_digit c.loop-end.end c.args.place c.args.text.now c.loop-end.invariant c.loop-end-test.true
+    (sym c.is_ascii_digit.ensures.value ∙ c.if-not-is_ascii_digit.true)
 
-pub returns-then-not-digit : goal.returns-then-not-digit
-unfolding digits
-returns-then-not-digit c = search (run_over digit)
-
-pub loop-past-preserved : goal.loop-past-preserved
-loop-past-preserved c = search (run_on digit)
+pub loop-end-preserved : goal.loop-end-preserved
+loop-end-preserved c =
+    omega (
+      arith,
+      digits_on c.loop-end.end c.args.text.now c.loop-end-test.true
+          (sym c.is_ascii_digit.ensures.value ∙ c.if-not-is_ascii_digit.false),
+    )
 
 pub returns : goal.returns
-unfolding digits
-returns c = search (text_over digit)
+returns c =
+    c.then_some-2.ensures
+    ∙ no_digit c.loop-end.end c.args.place c.args.text.now c.loop-end.invariant c.loop-end-test.false
+    c.loop-end.auto.end-end

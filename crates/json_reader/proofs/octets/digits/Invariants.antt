@@ -1,12 +1,8 @@
-use Prim.Native.Nat.{◌-◌}
+use Prim.Native.Nat.{◌+◌}
 use mathlib.Core.Path.{◌≡◌}
-use lib.ListN.{length}
-use Rattle.json_reader.proofs.Leading.{run_end}
-use Rattle.rules_json.specs.Grammar.{digit}
+use lib.ListN.{drop}
+use Rattle.rules_json.specs.Reader.{digits}
 use Rattle.json_reader.proofs.octets.digits.Given as goal
 
-abbrev pub invariant-loop-past : goal.invariant-loop-past
-invariant-loop-past l = run_end digit l.text l.past ≡ run_end digit l.text l.place
-
-abbrev pub decreases-loop-past : goal.decreases-loop-past
-decreases-loop-past l = length l.text - l.past
+abbrev pub invariant-loop-end : goal.invariant-loop-end
+invariant-loop-end l = l.end + digits (drop l.end l.text) ≡ l.place + digits (drop l.place l.text)

@@ -1,12 +1,8 @@
-use Prim.Native.Nat.{◌-◌}
+use Prim.Native.Nat.{◌+◌}
 use mathlib.Core.Path.{◌≡◌}
-use lib.ListN.{length}
-use Rattle.json_reader.proofs.Leading.{run_end}
-use Rattle.rules_json.specs.Grammar.{blank}
+use lib.ListN.{drop}
+use Rattle.rules_json.specs.Reader.{blanks}
 use Rattle.json_reader.proofs.octets.past_blanks.Given as goal
 
 abbrev pub invariant-loop-past : goal.invariant-loop-past
-invariant-loop-past l = run_end blank l.text l.past ≡ run_end blank l.text l.place
-
-abbrev pub decreases-loop-past : goal.decreases-loop-past
-decreases-loop-past l = length l.text - l.past
+invariant-loop-past l = l.past + blanks (drop l.past l.text) ≡ l.place + blanks (drop l.place l.text)

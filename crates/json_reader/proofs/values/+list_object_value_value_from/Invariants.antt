@@ -2,6 +2,7 @@
 use Rattle.std.proofs.Common.{ℕ, ◌+◌, ◌-◌, ◌≡◌, drop, length}
 use Rattle.rules_json.specs.Reader.{at, member_size, value_size}
 use Rattle.json_reader.proofs.Bracketed.{Walking}
+use Rattle.json_reader.specs.Places.{past}
 use Rattle.json_reader.proofs.values.+list_object_value_value_from.Given as goal
 
 -- Each level of depth counts three: a value, the same by its octet, and a list or an object.
@@ -22,7 +23,7 @@ decreases-value_from l = levels l.deep + 1
 
 abbrev pub invariant-list-loop-item : goal.invariant-list-loop-item
 invariant-list-loop-item l =
-    Walking 0x5D (value_size (l.deep - 1)) l.text l.at (value_size l.deep (drop l.at l.text)) l.item.place
+    Walking 0x5D (value_size l.inside) l.text (past l.at (value_size l.deep (drop l.at l.text))) l.item.place
     × (l.item.octet ≡ at l.text l.item.place)
 
 abbrev pub decreases-list-loop-item : goal.decreases-list-loop-item
@@ -30,7 +31,8 @@ decreases-list-loop-item l = length l.text - l.item.place
 
 abbrev pub invariant-object-loop-item : goal.invariant-object-loop-item
 invariant-object-loop-item l =
-    Walking 0x7D (member_size (value_size (l.deep - 1))) l.text l.at (value_size l.deep (drop l.at l.text)) l.item.place
+    Walking 0x7D (member_size (value_size l.inside)) l.text (past l.at (value_size l.deep (drop l.at l.text)))
+    l.item.place
 
 abbrev pub decreases-object-loop-item : goal.decreases-object-loop-item
 decreases-object-loop-item l = length l.text - l.item.place

@@ -1,19 +1,37 @@
--- `line_said`: six numbers, what is wrong with them, and what they fill.
-use Rattle.plan_lines.proofs.Spoken.{line_said_lem, six_read}
-use Rattle.rules_plan.specs.Words.{words}
+-- `line_said`: a word that is no name comes first.
+use mathlib.Core.Bool.{false}
+use mathlib.Core.Path.{◌≡◌, refl}
+use lib.Dec.{eqb}
+use borrow.Author.Rules.{rules}
+use Rattle.rules.specs.Words.{◌if◌then◌}
+use Rattle.rules_plan.specs.Answered.{word_number}
+use Rattle.rules_plan.specs.Lines.{line_said}
+use Rattle.rules_plan.specs.declared.ReportWord.{ReportWord}
+use Rattle.rules_plan.specs.declared.Setting.{Setting}
+use Rattle.rules_plan.specs.declared.Word.{Word}
 use Rattle.plan_lines.proofs.lines.line_said.Goals as goal
 
-pub returns : goal.returns
-returns c = let a = c.args in
-    let of_first = c.number_from-first.ensures in
-    let of_second = c.number_from-second.ensures in
-    let of_third = c.number_from-third.ensures in
-    let of_fourth = c.number_from-fourth.ensures in
-    let of_fifth = c.number_from-fifth.ensures in
-    let read = six_read (words a.behind.now)
-    of_first.line_value of_second.line_value of_third.line_value of_fourth.line_value of_fifth.line_value
-    of_first.number_value of_second.number_value of_third.number_value of_fourth.number_value of_fifth.number_value
-    c.number_from-sixth.ensures.number_value in
-    let most = c.mosts_of in
-    line_said_lem a.name (words a.behind.now) read most.result most.ensures
-    c.name_fault.ensures c.six_faults.ensures c.filled_by.ensures
+pub returns-in-Other : goal.returns-in-Other
+unfolding line_said ◌if◌then◌
+returns-in-Other c = search rules
+
+a_name : (word : Word) → (word ≡ Word.Other → ⊥) → eqb (word_number word) 14 ≡ false
+a_name Word.Other h = absurd (h refl)
+a_name (Word.Setting Setting.Tracks) h = refl
+a_name (Word.Setting Setting.T1) h = refl
+a_name (Word.Setting Setting.T2) h = refl
+a_name (Word.Setting Setting.T3) h = refl
+a_name (Word.Setting Setting.T4) h = refl
+a_name (Word.Setting Setting.T5) h = refl
+a_name (Word.Report ReportWord.Occupied) h = refl
+a_name (Word.Report ReportWord.Free) h = refl
+a_name (Word.Report ReportWord.Clock) h = refl
+a_name (Word.Report ReportWord.Failed) h = refl
+a_name (Word.Report ReportWord.Restored) h = refl
+a_name (Word.Report ReportWord.Head) h = refl
+a_name (Word.Report ReportWord.Normalise) h = refl
+a_name (Word.Report ReportWord.Report) h = refl
+
+pub returns-in_default : goal.returns-in_default
+unfolding line_said ◌if◌then◌
+returns-in_default c = rw (a_name c.args.word c.in_default.not-Other) cc

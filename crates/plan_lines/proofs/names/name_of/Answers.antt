@@ -1,14 +1,19 @@
--- `name_of`: the place among the settings, and behind them among the kinds of reports.
-use mathlib.Core.List.{map}
-use mathlib.Core.Path.{ap, ◌∙◌}
-use lib.ListN.{take}
-use Rattle.plan_lines.specs.Names.{place_from}
-use Rattle.plan_lines.proofs.Naming.{name_from}
-use Rattle.rules_plan.specs.Words.{lower, names}
+-- `name_of`: the first name that is the word, or none.
+use mathlib.Core.Path.{◌∙◌}
+use Rattle.plan_lines.proofs.Naming.{found, name_from, not_found, searched_on}
+use Rattle.plan_lines.specs.Names.{number_among}
 use Rattle.plan_lines.proofs.names.name_of.Goals as goal
 
+pub returns-then-eq_ignore_ascii_case : goal.returns-then-eq_ignore_ascii_case
+unfolding number_among
+returns-then-eq_ignore_ascii_case c =
+    found _ c.args.word.now _ c.loop-name.invariant c.loop-name-test.true _ _ c.eq_ignore_ascii_case.ensures.test
+    c.if-eq_ignore_ascii_case.true ∙ name_from c.args.word.now
+
+pub loop-name-preserved : goal.loop-name-preserved
+loop-name-preserved c = searched_on _ c.args.word.now _ c.loop-name.invariant c.loop-name-test.true _ _
+    c.eq_ignore_ascii_case.ensures.test c.if-eq_ignore_ascii_case.false
+
 pub returns : goal.returns
-returns c = let word = c.args.word.now in
-    c.setting_name.ensures
-    ∙ ap (place_from 0 (take 6 names) (map lower word)) c.report_name.ensures
-    ∙ name_from word
+unfolding number_among
+returns c = not_found _ c.args.word.now _ c.loop-name.invariant c.loop-name-test.false ∙ name_from c.args.word.now

@@ -1,12 +1,12 @@
--- `byte`: a number up to the most, and 0 for a greater one.
-use borrow.Author.Tests.{le-leb, lt-leb}
-use Rattle.plan_lines.specs.Behind.{as_byte}
+use Rattle.plan_lines.proofs.Numbered.{next_value}
+use Rattle.rules.specs.Answered.{given}
+use Rattle.rules.specs.Screen.{our_number}
+use Rattle.std.proofs.Common.{◌≡◌, None, rules, ◌∙◌}
+use Rattle.std.specs.Option.{MatchOption}
 use Rattle.plan_lines.proofs.numbers.byte.Goals as goal
 
-pub returns-then-number-le-BYTE : goal.returns-then-number-le-BYTE
-unfolding as_byte
-returns-then-number-le-BYTE c = simp (le-leb _ _ c.if-number-le-BYTE.true)
-
-pub returns-else-number-le-BYTE : goal.returns-else-number-le-BYTE
-unfolding as_byte
-returns-else-number-le-BYTE c = simp (lt-leb _ _ c.if-number-le-BYTE.false)
+pub returns-clause-value : goal.returns-clause-value
+returns-clause-value c =
+    let found : MatchOption c.next.result (c.and_then.result ≡ None)
+    (λ word. given c.and_then.result ≡ our_number 255 word.now) = search rules in
+    c.unwrap_or.ensures ∙ next_value 255 _ _ _ _ c.next.ensures.steps found

@@ -1,12 +1,12 @@
--- `sixteen_bits`: a number up to the most, and 0 for a greater one.
-use borrow.Author.Tests.{le-leb, lt-leb}
-use Rattle.plan_lines.specs.Behind.{as_sixteen_bits}
+use Rattle.plan_lines.proofs.Numbered.{next_value}
+use Rattle.rules.specs.Answered.{given}
+use Rattle.rules.specs.Screen.{our_number}
+use Rattle.std.proofs.Common.{◌≡◌, None, rules, ◌∙◌}
+use Rattle.std.specs.Option.{MatchOption}
 use Rattle.plan_lines.proofs.numbers.sixteen_bits.Goals as goal
 
-pub returns-then-number-le-SIXTEEN_BITS : goal.returns-then-number-le-SIXTEEN_BITS
-unfolding as_sixteen_bits
-returns-then-number-le-SIXTEEN_BITS c = simp (le-leb _ _ c.if-number-le-SIXTEEN_BITS.true)
-
-pub returns-else-number-le-SIXTEEN_BITS : goal.returns-else-number-le-SIXTEEN_BITS
-unfolding as_sixteen_bits
-returns-else-number-le-SIXTEEN_BITS c = simp (lt-leb _ _ c.if-number-le-SIXTEEN_BITS.false)
+pub returns-clause-value : goal.returns-clause-value
+returns-clause-value c =
+    let found : MatchOption c.next.result (c.and_then.result ≡ None)
+    (λ word. given c.and_then.result ≡ our_number 65535 word.now) = search rules in
+    c.unwrap_or.ensures ∙ next_value 65535 _ _ _ _ c.next.ensures.steps found

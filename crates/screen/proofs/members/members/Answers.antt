@@ -1,66 +1,68 @@
 -- `members`: before each member, where the object ends and what was found are told by what is left.
+use mathlib.Core.Path.{sym, subst}
 use native.Mathlib.Omega.{arith}
-use Rattle.json_reader.proofs.Bracketed.{inside}
-use Rattle.json_reader.proofs.Places.{in_text}
-use Rattle.screen.proofs.Seeking.{MemberRead, broken, member_item, member_on, members_over, nameless, no_outermost}
-use Rattle.screen.proofs.Seeking.{object_begins, object_empty, object_ends, string_there, valueless}
+use Rattle.screen.proofs.Seeking.{MemberRead, behind_member, broken, member_on, members_over, nameless, object_begins}
+use Rattle.screen.proofs.Seeking.{object_empty, object_ends, string_there, valueless}
+use Rattle.screen.specs.Places.{Outermost}
 use Rattle.screen.proofs.members.members.Goals as goal
-use Rattle.screen.proofs.members.members.Goals.{After-octet-found}
+use Rattle.screen.proofs.members.members.Goals.{After-octet-in-loop-place}
 
 pub returns-then-octet-eq125 : goal.returns-then-octet-eq125
-returns-then-octet-eq125 c = object_empty c.args.text.now c.args.at c.requires _ _ c.blanks-place.ensures
-    c.octet.ensures c.if-octet-eq125.true
-    c.without_members.ensures
+returns-then-octet-eq125 c =
+    object_empty c.args.text.now c.args.at c.requires _ _ c.blanks-place.ensures c.octet.ensures c.if-octet-eq125.true
+    c.default-ours.result c.default-ours.ensures
 
 pub loop-place-init : goal.loop-place-init
-loop-place-init c = object_begins c.args.text.now c.args.at c.requires _ _ c.blanks-place.ensures
-    c.octet.ensures c.if-octet-eq125.false
-    c.nowhere-ours.ensures
+loop-place-init c =
+    object_begins c.args.text.now c.args.at c.requires _ _ c.blanks-place.ensures c.octet.ensures
+    c.if-octet-eq125.false c.default-ours.result c.default-ours.ensures
 
-pub returns-then-value-place : goal.returns-then-value-place
-returns-then-value-place c = let given = c.args in
-    no_outermost given.text.now given.at c.without_members-then-value-place.ensures
-    (nameless c.loop-place.invariant c.member_name-value.ensures c.if-value-place.true)
+pub returns-in_err-inner : goal.returns-in_err-inner
+returns-in_err-inner c =
+    subst (Outermost c.args.text.now c.args.at) (sym c.from_residual.ensures)
+    (nameless c.loop-place.invariant c.in_err-inner.ensures)
 
-pub returns-then-past-value : goal.returns-then-past-value
-returns-then-past-value c = let given = c.args in
-    no_outermost given.text.now given.at c.without_members-then-past-value.ensures
-    (valueless c.loop-place.invariant c.member_name-value.ensures c.if-value-place.false c.value-past.ensures
-    c.if-past-value.true)
+pub returns-in_err-past : goal.returns-in_err-past
+returns-in_err-past c =
+    subst (Outermost c.args.text.now c.args.at) (sym c.from_residual-in_err-past.ensures)
+    (valueless c.loop-place.invariant c.in_ok-inner.ensures c.in_err-past.ensures)
 
-pub with_member-next-requires : goal.with_member-next-requires
-with_member-next-requires c = string_there _ c.member_name-value.ensures c.if-value-place.false
+pub with_member-ours-requires : goal.with_member-ours-requires
+with_member-ours-requires c = string_there _ _ c.in_ok-inner.ensures
 
-module _ (c : After-octet-found) where
+module _ (c : After-octet-in-loop-place) where
   read : MemberRead c.args.text.now c.args.at c.loop-place.place c.loop-place.ours
-      c.with_member-next.result c.blanks-behind.result c.octet-found.result
+      c.with_member-ours.result c.blanks-behind.result c.octet-in-loop-place.result
   read =
       record {
         so_far = c.loop-place.invariant;
-        value = c.member_name-value.result;
-        name_size_lem = c.member_name-value.ensures;
-        named = c.if-value-place.false;
-        past = c.value-past.result;
-        value_size_lem = c.value-past.ensures;
-        valued = c.if-past-value.false;
-        found = c.with_member-next.ensures;
+        inner = c.in_ok-inner.inner;
+        named = c.in_ok-inner.ensures;
+        end = c.in_ok-past.past;
+        valued = c.in_ok-past.ensures;
+        found = c.with_member-ours.ensures;
         skips = c.blanks-behind.ensures;
-        octet_is = c.octet-found.ensures;
+        octet_is = c.octet-in-loop-place.ensures;
       }
 
-pub returns-then-found-eq125 : goal.returns-then-found-eq125
-returns-then-found-eq125 c = object_ends (read (goal.at.returns-then-found-eq125 c).After-octet-found)
-    c.if-found-eq125.true
-
-pub returns-then-found-ne44 : goal.returns-then-found-ne44
-returns-then-found-ne44 c = no_outermost c.args.text.now c.args.at c.without_members-then-found-ne44.ensures
-    (broken (read (goal.at.returns-then-found-ne44 c).After-octet-found) c.if-found-eq125.false c.if-found-ne44.true)
+pub loop-place-smaller : goal.loop-place-smaller
+loop-place-smaller c =
+    omega (
+      arith,
+      behind_member (read (goal.at.loop-place-smaller c).After-octet-in-loop-place),
+      c.blanks-place-in-44.ensures,
+    )
 
 pub loop-place-preserved : goal.loop-place-preserved
-loop-place-preserved c = member_on (read (goal.at.loop-place-preserved c).After-octet-found) c.if-found-ne44.false
-    c.blanks-place-in-loop-place.ensures
+loop-place-preserved c =
+    member_on (read (goal.at.loop-place-preserved c).After-octet-in-loop-place) c.in-44.is c.blanks-place-in-44.ensures
+
+pub returns-in-125 : goal.returns-in-125
+returns-in-125 c = object_ends (read (goal.at.returns-in-125 c).After-octet-in-loop-place) c.in-125.is
+
+pub returns-in_default : goal.returns-in_default
+returns-in_default c =
+    broken (read (goal.at.returns-in_default c).After-octet-in-loop-place) (λ e. omega arith) (λ e. omega arith)
 
 pub returns : goal.returns
-returns c = let given = c.args in
-    no_outermost given.text.now given.at c.without_members-2.ensures
-    (members_over c.loop-place.invariant c.loop-place-test.false)
+returns c = members_over c.loop-place.invariant c.loop-place-test.false

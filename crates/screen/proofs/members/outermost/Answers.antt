@@ -1,9 +1,9 @@
 -- `outermost`: an object has members, and no other value has.
-use mathlib.Core.Path.{sym, ◌∙◌}
+use mathlib.Core.Path.{◌∙◌}
 use Rattle.screen.proofs.Seeking.{no_object}
 use Rattle.screen.proofs.members.outermost.Goals as goal
 
 pub returns : goal.returns
-returns c = let given = c.args in
-    no_object given.text.now given.at (λ e. c.if-octet-eq123.false (c.octet.ensures ∙ e))
-    c.value.ensures c.without_members.ensures
+returns c =
+    no_object c.args.text.now c.args.at (λ e. c.if-octet-eq123.false (c.octet.ensures ∙ e)) c.in_ok-past.ensures
+    c.default.result c.default.ensures

@@ -1,19 +1,23 @@
--- `digits_of`: the four tracks one after the other fill the twenty digits.
-use mathlib.Core.Path.{◌≡◌}
-use lib.ListN.{length}
-use Rattle.islands.proofs.Listed.{counted}
-use Rattle.screen.proofs.Messages.{four_tracks_lem}
-use borrow.Author.Rules.{rules}
+-- `digits_of`: the digits of one more track in the place of zeros.
+use native.Mathlib.Omega.{arith}
+use mathlib.Core.Path.{◌∙◌}
+use Prim.Native.Nat.{◌*◌, ◌≤◌}
+use lib.ListN.{length, length-take, take}
+use Rattle.chains.proofs.Placing.{copied}
+use Rattle.screen.proofs.Messages.{one_more, tracks_within}
 use Rattle.screen.proofs.message.digits_of.Goals as goal
-use Rattle.screen.proofs.message.digits_of.Goals.{Start}
 
-four : (c : Start) → length c.args.station.tracks ≡ 4
-four c = search (rules, counted)
+pub shared_ref_as_front-live : goal.shared_ref_as_front-live
+shared_ref_as_front-live c = omega (arith, (tracks_within c.args.station.settings c.requires).1)
 
-pub returns : goal.returns
-returns c = four_tracks_lem c.args.station (four (goal.at.returns c).Start) c.requires
-    c.track_digits-first.ensures
-    c.track_digits-second.ensures
-    c.track_digits-third.ensures
-    c.track_digits-fourth.ensures
-    c.in_a_row.ensures
+pub loop-n-preserved : goal.loop-n-preserved
+loop-n-preserved c = let station = c.args.station in
+    let live = take station.settings.tracks station.tracks in
+    let few : length live ≤ 4 = omega (
+      arith,
+      length-take station.settings.tracks station.tracks,
+      (tracks_within station.settings c.requires).1,
+    ) in
+    copied (5 * c.loop-n.n) _ c.loop-n.digits _ _ (omega arith)
+    (c.copy_from_slice.ensures.after ∙ c.track_digits.ensures)
+    ∙ one_more live c.loop-n.n _ c.loop-n-test.true few c.loop-n.invariant

@@ -1,11 +1,13 @@
 -- `message_of`: outside the limits four tracks of 0, else what the station shows.
 use mathlib.Core.Path.{sym, ◌∙◌}
+use lib.ListN.{replicate}
 use Rattle.screen.proofs.Messages.{refused, sent}
 use Rattle.screen.proofs.message.message_of.Goals as goal
 
-pub returns-then-not-good : goal.returns-then-not-good
-returns-then-not-good c = refused _ _ (sym c.within_limits-good.ensures ∙ c.if-not-good.true)
+pub returns-then-not-within_limits : goal.returns-then-not-within_limits
+returns-then-not-within_limits c =
+    (λ i. record { station = c.args.number; aspect = c.into.ensures i; tracks = 4; digits = replicate 20 0 })
+    ∙ refused _ _ (sym c.if-not-within_limits.ensures)
 
 pub returns : goal.returns
-returns c = let limits = sym c.within_limits-good.ensures ∙ c.if-not-good.false in
-    sent _ _ limits c.aspect-aspect.ensures c.digits_of-digits.ensures
+returns c = sent _ _ (sym c.if-not-within_limits.ensures) (c.into-2.ensures ∙ c.aspect.ensures) c.digits_of.ensures

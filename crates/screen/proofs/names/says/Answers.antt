@@ -1,25 +1,23 @@
 -- `says`: what is left of the string says what is left of the word, where the whole does.
+use mathlib.Core.Path.{ap, ◌∙◌}
 use native.Mathlib.Omega.{arith}
-use Rattle.screen.proofs.Saying.{letter_of, says_begins, says_on, says_other, says_over}
+use lib.Dec.{eqb}
+use Rattle.screen.proofs.Saying.{says_begins, says_on, says_other, says_over, string_within}
 use Rattle.screen.proofs.names.says.Goals as goal
 
-pub loop-letter-init : goal.loop-letter-init
-loop-letter-init c = says_begins _ _ c.requires.fact
+pub overflow_add-place : goal.overflow_add-place
+overflow_add-place c =
+    omega (arith, string_within c.args.text.now c.args.word.now c.args.at c.requires.string_value)
 
-pub returns-then-size-eq0 : goal.returns-then-size-eq0
-returns-then-size-eq0 c = says_other c.loop-letter.invariant c.loop-letter-test.true c.letter_size-size.ensures
-    c.requires.word_value c.if-size-eq0.true
+pub loop-letter-init : goal.loop-letter-init
+loop-letter-init c = says_begins _ _ _ c.requires.string_value
+
+pub returns-in_default : goal.returns-in_default
+returns-in_default c =
+    says_other c.loop-letter.invariant c.loop-letter-test.true c.requires.word_value c.in_default.ensures
 
 pub loop-letter-preserved : goal.loop-letter-preserved
-loop-letter-preserved c = says_on c.loop-letter.invariant c.loop-letter-test.true c.letter_size-size.ensures
-    c.if-size-eq0.false
-
-pub overflow_add-place : goal.overflow_add-place
-overflow_add-place c = omega (
-  arith,
-  (says_on c.loop-letter.invariant c.loop-letter-test.true
-      c.letter_size-size.ensures c.if-size-eq0.false).within_head,
-)
+loop-letter-preserved c = says_on c.loop-letter.invariant c.loop-letter-test.true _ c.in-Some.ensures
 
 pub returns : goal.returns
-returns c = says_over c.loop-letter.invariant (omega arith) _ c.octet.ensures
+returns c = ap (λ o. eqb o 0x22) c.octet.ensures ∙ says_over c.loop-letter.invariant c.loop-letter-test.false

@@ -1,28 +1,41 @@
 -- `gathered`: what our members give is told by what stands at their places.
-use Prim.Native.Nat.{◌≤◌}
+use mathlib.Core.Path.{◌∙◌}
 use native.Mathlib.Omega.{arith}
-use Rattle.screen.proofs.Given.{in_range_lem, member_bad, member_good, member_missing, tracks_there}
+use Rattle.screen.proofs.Given.{all_given, bad_aspect, bad_station, bad_tracks, great_aspect, no_aspect, no_station}
+use Rattle.screen.proofs.Given.{no_tracks}
 use Rattle.screen.proofs.reading.gathered.Goals as goal
-use Rattle.screen.proofs.reading.gathered.Goals.{Else-not-good}
 
-pub returns-then-missing : goal.returns-then-missing
-returns-then-missing c = member_missing c.requires c.if-missing.true c.refused.ensures
+pub returns-in_err-places : goal.returns-in_err-places
+returns-in_err-places c = c.from_residual.ensures ∙ no_station c.requires c.in_err-places.was
 
-pub tracks-shown-requires : goal.tracks-shown-requires
-tracks-shown-requires c = tracks_there c.requires c.if-missing.false
+pub returns-in_err-station : goal.returns-in_err-station
+returns-in_err-station c =
+    c.from_residual-in_err-station.ensures
+    ∙ bad_station c.requires _ c.in_ok-places.was c.in_err-station.ensures
 
-pub returns-then-not-good : goal.returns-then-not-good
-returns-then-not-good c = member_bad c.requires c.if-missing.false
-    c.number-station.ensures c.number-aspect.ensures
-    c.tracks-shown.ensures c.if-not-good.true c.refused-then-not-good.ensures
+pub returns-in_err-places-2 : goal.returns-in_err-places-2
+returns-in_err-places-2 c =
+    c.from_residual-in_err-places-2.ensures ∙ no_aspect c.requires c.in_err-places-2.was
 
-ranges : (c : Else-not-good) → (c.number-station.result ≤ 65535) × (c.number-aspect.result ≤ 5)
-ranges c =
-    in_range_lem c.requires c.if-missing.false
-    c.number-station.ensures c.number-aspect.ensures c.tracks-shown.ensures
-    c.if-not-good.false
+pub returns-in_err-aspect : goal.returns-in_err-aspect
+returns-in_err-aspect c =
+    c.from_residual-in_err-aspect.ensures
+    ∙ bad_aspect c.requires _ c.in_ok-places-2.was c.in_err-aspect.ensures
+
+pub returns-in_err-places-3 : goal.returns-in_err-places-3
+returns-in_err-places-3 c =
+    c.from_residual-in_err-places-3.ensures ∙ no_tracks c.requires c.in_err-places-3.was
+
+pub returns-in_err-shown : goal.returns-in_err-shown
+returns-in_err-shown c =
+    c.from_residual-in_err-shown.ensures ∙ bad_tracks c.requires _ c.in_ok-places-3.was c.in_err-shown.ensures
+
+pub returns-then-aspect-gt-GREATEST_ASPECT : goal.returns-then-aspect-gt-GREATEST_ASPECT
+returns-then-aspect-gt-GREATEST_ASPECT c =
+    great_aspect c.requires _ c.in_ok-places-2.was _ c.in_ok-aspect.ensures c.if-aspect-gt-GREATEST_ASPECT.true
 
 pub returns : goal.returns
-returns c = member_good c.requires c.if-missing.false
-    c.number-station.ensures c.number-aspect.ensures
-    c.tracks-shown.ensures c.if-not-good.false
+returns c =
+    all_given c.requires _ _ _ c.in_ok-places.was c.in_ok-places-2.was c.in_ok-places-3.was _ _
+    c.in_ok-station.ensures (omega arith) c.in_ok-aspect.ensures c.if-aspect-gt-GREATEST_ASPECT.false
+    c.in_ok-shown.shown c.in_ok-shown.ensures

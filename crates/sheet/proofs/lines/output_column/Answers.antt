@@ -1,24 +1,26 @@
 -- `output_column`: a digit for each of the nine output bits.
-use mathlib.Core.Path.{◌≡◌, ◌∙◌, ap}
-use mathlib.Core.Bool.{not}
-use mathlib.Core.List.{[], ◌∷◌}
-use Prim.Native.Nat.{ℕ, ◌+◌, ◌-◌, ◌^◌}
-use lib.Bits.{bit_and}
-use lib.Dec.{eqb}
-use Rattle.rules.specs.Heads.{bit}
-use Rattle.rules.specs.Printer.{zero_or_one}
+use Rattle.std.proofs.Common.{[], ◌++◌, ◌∙◌, ◌∷◌, ap, bit_and, List, not, nat_eq, refl, rules, sym, ℕ}
+use Rattle.islands.proofs.Listed.{listed}
+use Rattle.rules.specs.Printer.{space, zero_or_one}
 use Rattle.signal.proofs.Digits.{set}
+use Rattle.text.proofs.Mapped.{mapped}
 use Rattle.sheet.proofs.lines.output_column.Goals as goal
 
--- the digit of a column, whose bit stands at place k
-column : (o k : ℕ) {digit : ℕ} → digit ≡ zero_or_one (not (eqb (bit_and o (2 ^ (1 + k) - 2 ^ k)) 0))
-    → digit ≡ zero_or_one (bit o k)
-column o k e = e ∙ ap zero_or_one (set o k)
+abbrev digit : ℕ → ℕ
+digit bit = zero_or_one (not (nat_eq bit 0))
+
+-- VF to S4
+abbrev bits : ℕ → List ℕ
+bits o =
+    bit_and o 1 ∷ bit_and o 2 ∷ bit_and o 4 ∷ bit_and o 8 ∷ bit_and o 16 ∷ bit_and o 32 ∷ bit_and o 64 ∷ bit_and o 128
+    ∷ bit_and o 256 ∷ []
 
 pub returns : goal.returns
 returns c = let o = c.args.outputs in
-    λ i. column o 0 c.digit.ensures i ∷ column o 1 c.digit-2.ensures i
-    ∷ column o 2 c.digit-3.ensures i ∷ column o 3 c.digit-4.ensures i
-    ∷ column o 4 c.digit-5.ensures i ∷ column o 5 c.digit-6.ensures i
-    ∷ column o 6 c.digit-7.ensures i ∷ column o 7 c.digit-8.ensures i
-    ∷ column o 8 c.digit-9.ensures i ∷ 32 ∷ []
+    ap (λ l. l ++ space)
+    (sym (listed 0 c.map.result 9 c.map.ensures.items.long)
+    ∙ mapped digit 0 (bits o) c.map.result 9 refl c.map.ensures.items.long
+    (λ k d h. let each = c.map.ensures.items.at k 0 d h in search rules)
+    ∙ λ i. zero_or_one (set o 0 i) ∷ zero_or_one (set o 1 i) ∷ zero_or_one (set o 2 i) ∷ zero_or_one (set o 3 i)
+    ∷ zero_or_one (set o 4 i) ∷ zero_or_one (set o 5 i) ∷ zero_or_one (set o 6 i) ∷ zero_or_one (set o 7 i)
+    ∷ zero_or_one (set o 8 i) ∷ [])

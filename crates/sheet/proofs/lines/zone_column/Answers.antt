@@ -1,14 +1,20 @@
 -- `zone_column`: a digit for each of the five zones.
-use mathlib.Core.Path.{◌∙◌, ap, sym}
-use mathlib.Core.List.{[], ◌∷◌, ◌++◌}
-use borrow.Author.Rules.{rules}
+use Rattle.std.proofs.Common.{◌++◌, ◌≡◌, ◌∙◌, ap, length, not, nat_eq, rules, sym, ℕ}
 use Rattle.islands.proofs.Listed.{listed}
-use Rattle.rules.specs.Printer.{space, zone_text}
+use Rattle.rules.specs.Printer.{space, zero_or_one}
+use Rattle.text.proofs.Mapped.{mapped}
 use Rattle.sheet.proofs.lines.zone_column.Goals as goal
+use Rattle.sheet.proofs.lines.zone_column.Goals.{After-map}
+
+abbrev digit : ℕ → ℕ
+digit zone = zero_or_one (not (nat_eq zone 0))
+
+five : (c : After-map) → length c.args.zones ≡ 5
+five c = search rules
 
 pub returns : goal.returns
 returns c = let zones = c.args.zones in
-    (λ i.
-    32 ∷ c.digit.ensures i ∷ c.digit-2.ensures i ∷ c.digit-3.ensures i ∷ c.digit-4.ensures i
-    ∷ c.digit-5.ensures i ∷ 32 ∷ [])
-    ∙ ap (λ l. space ++ zone_text l ++ space) (sym (listed 0 zones 5 (search rules)))
+    ap (λ l. space ++ l ++ space)
+    (sym (listed 0 c.map.result 5 c.map.ensures.items.long)
+    ∙ mapped digit 0 zones c.map.result 5 (five c) c.map.ensures.items.long
+    (λ k d h. let each = c.map.ensures.items.at k 0 d h in search rules))

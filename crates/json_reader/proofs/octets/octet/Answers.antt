@@ -1,7 +1,0 @@
--- `octet`: past the end it is 0.
-use mathlib.Core.Path.{sym}
-use lib.ListN.{get_or-eq_default}
-use Rattle.json_reader.proofs.octets.octet.Goals as goal
-
-pub returns-else-place-text : goal.returns-else-place-text
-returns-else-place-text c = sym (get_or-eq_default c.args.text.now 0 c.if-place-text.false)

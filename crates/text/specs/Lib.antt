@@ -1,0 +1,2 @@
+-- What is written in a lent buffer
+pub mod Texts
