@@ -117,16 +117,16 @@ module _ (s : Station) (r : Timetable) where
     ticks_are (suc n) h = ap tick (ticks_are n (omega arith)) ∙ tick_then n h
 
 -- what the code puts together
-pub ticks_made : (s : Station) (n j m hold : ℕ) (r : Timetable) (l : List Track) → length s.tracks ≡ 4 → n < 65536
+pub ticks_made : (s : Station) (n j hold : ℕ) (r : Timetable) (l : List Track) (fault : Bool)
+    → length s.tracks ≡ 4 → n < 65536
     → j ≡ min s.settings.tracks 4
-    → m ≡ n
     → Timed s.settings (take j s.tracks) r
     → l ≡ map (later_track n) (take j s.tracks)
     → hold ≡ hold_after (risk_at r) s.settings.t4 s.hold n
-    → with_fault (with_hold (with_tracks s (l ++ drop j s.tracks)) hold) (s.fault || (ltb 0 n && leb r.late m))
-    ≡ ticks n s
-ticks_made s n j m hold r l len k ej em e el eh =
-    (λ i. with_fault (with_hold (with_tracks s (later_in_place i)) (eh i)) (s.fault || (ltb 0 n && leb r.late (em i))))
+    → fault ≡ (s.fault || (ltb 0 n && leb r.late n))
+    → with_fault (with_hold (with_tracks s (l ++ drop j s.tracks)) hold) fault ≡ ticks n s
+ticks_made s n j hold r l fault len k ej e el eh ef =
+    (λ i. with_fault (with_hold (with_tracks s (later_in_place i)) (eh i)) (ef i))
     ∙ sym (ticks_are s r (subst (λ (x : List Track). Timed s.settings x r) same e) n k)
   where
     same : take j s.tracks ≡ live s

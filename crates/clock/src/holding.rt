@@ -1,6 +1,6 @@
 // The hold, tick by tick: the timetable tells beforehand when the condition is true.
 ghost use Rattle.std.specs.Prelude.{◌≡◌};
-ghost use Rattle.clock.specs.Hold.{hold_after, lowered as Hold·lowered};
+ghost use Rattle.clock.specs.Hold.{hold_after, lowered};
 ghost use Rattle.clock.specs.Timetable.{risk_at};
 
 use crate::timing::Timetable;
@@ -22,7 +22,7 @@ pub(crate) fn hold_after(table: Timetable, t4: u16, hold: u16, n: u16) -> u16
 
 // If the condition is false and the hold is above 0, it falls by one.
 fn lowered(risk: bool, hold: u16) -> u16
-    ensures { result ≡ Hold·lowered risk hold }
+    ensures { result ≡ lowered risk hold }
 {
     if risk { hold } else { hold.saturating_sub(1) }
 }

@@ -4,7 +4,7 @@
 // clock report looks at each island once to tell them, walks its ticks one by one with the hold alone,
 // and then sets the ages.
 ghost use Rattle.std.specs.Prelude.{◌≡◌};
-ghost use Rattle.rules.specs.Reports.{ticks as Reports·ticks};
+ghost use Rattle.rules.specs.Reports.{ticks};
 
 use crate::ageing::grow_older;
 use crate::holding::hold_after;
@@ -14,7 +14,7 @@ use rules::Station;
 // The station n single ticks later. Tracks beyond its number stay as they are.
 #[tactic(auto, using(crate::proofs::ByTimetable::ticks_made))]
 pub fn ticks(station: Station, n: u16) -> Station
-    ensures { result ≡ Reports·ticks n station }
+    ensures { result ≡ ticks n station }
 {
     let settings = station.settings;
     let live = islands::live_tracks(settings.tracks);
@@ -24,7 +24,7 @@ pub fn ticks(station: Station, n: u16) -> Station
     Station {
         tracks,
         hold: hold_after(table, settings.t4, station.hold, n),
-        fault: station.fault | ((0 < n) & (table.late <= u32::from(n))),
+        fault: table.fault_after(station.fault, n),
         ..station
     }
 }

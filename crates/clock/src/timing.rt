@@ -1,5 +1,5 @@
 // When the signs of the tracks turn: the timetable by which a clock report's ticks are walked.
-ghost use Rattle.std.specs.Prelude.{◌≡◌};
+ghost use Rattle.std.specs.Prelude.{◌≡◌, ◌&&◌, ◌||◌, leb, ltb};
 ghost use Rattle.clock.specs.Timetable.{Timed, risk_at, with_turns};
 
 use crate::turning::{NEVER, Turns, turns_of};
@@ -34,6 +34,13 @@ impl Timetable {
     {
         let tick = u32::from(n);
         (tick < self.fresh) & (self.second <= tick)
+    }
+
+    // The fault n ticks later. No tick, no latch.
+    pub(crate) fn fault_after(self, fault: bool, n: u16) -> bool
+        ensures { result ≡ (fault || (ltb 0 n && leb self.late n)) }
+    {
+        fault || (0 < n && self.late <= u32::from(n))
     }
 }
 

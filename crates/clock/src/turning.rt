@@ -5,8 +5,8 @@ ghost use Rattle.clock.specs.Turns.{together, turns_in, turns_of};
 
 use rules::{Island, Settings, Track};
 
-// Later than any clock report reaches: a number beyond all ticks, and not None, since that would be the
-// least of options where it has to be the greatest of numbers.
+// Later than any clock report reaches: a number beyond all ticks. An enum of a tick and never would be
+// ordered rightly too, but turns are joined by `min` and `max`, which of numbers take one comparison.
 pub(crate) const NEVER: u32 = 65536;
 
 // When signs turn, in ticks from now: of a track, it has a fresh approaching island until the first,

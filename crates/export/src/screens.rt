@@ -2,7 +2,7 @@
 ghost use Rattle.std.specs.Prelude.{◌≡◌, length};
 ghost use Rattle.rules.specs.Screen.{after_writing, message_of, received, written_of};
 
-use rules::{DONE, Message, Received, Station, Written};
+use rules::{Message, Received, Station, Written};
 
 // What the information desk is told of a station with this number.
 #[unsafe(no_mangle)]
@@ -19,16 +19,7 @@ pub extern "C" fn degvuurel_write_message(message: Message, buffer: &mut [u8]) -
     ensures value { result ≡ written_of message (length buffer.old) }
     ensures buffer_after { buffer.new ≡ after_writing message buffer.old }
 {
-    match screen::write(message, buffer) {
-        Ok(length) => Written {
-            answer: DONE,
-            length,
-        },
-        Err(refusal) => Written {
-            answer: refusal.into(),
-            length: 0,
-        },
-    }
+    screen::write(message, buffer).into()
 }
 
 // The message that a text holds. Refused by 15 or 16, it is zeros and no tracks.
@@ -36,19 +27,5 @@ pub extern "C" fn degvuurel_write_message(message: Message, buffer: &mut [u8]) -
 pub extern "C" fn degvuurel_read_message(text: &[u8]) -> Received
     ensures { result ≡ received text.now }
 {
-    match screen::read(text) {
-        Ok(message) => Received {
-            answer: DONE,
-            message,
-        },
-        Err(refusal) => Received {
-            answer: refusal.into(),
-            message: Message {
-                station: 0,
-                aspect: 0,
-                tracks: 0,
-                digits: [0u8; 20],
-            },
-        },
-    }
+    screen::read(text).into()
 }

@@ -1,6 +1,6 @@
 -- What the definitions over a track's islands are at five islands.
 -- Assumes nothing.
-use mathlib.Core.Path.{◌≡◌, refl, sym, ap, ◌∙◌}
+use mathlib.Core.Path.{◌≡◌, refl, ap}
 use mathlib.Core.Bool.{Bool, ◌||◌}
 use mathlib.Core.List.{List, [], ◌∷◌}
 use Rattle.std.specs.List.{list_any}
@@ -17,10 +17,6 @@ five t = record { islands = tabulate 5 (island_at t) }
 
 pub is_five : (t : Track) → length t.islands ≡ 5 → t ≡ five t
 is_five t e = ap (λ (l : List Island). record { islands = l }) (listed free t.islands 5 e)
-
--- what is shown of the islands written out is shown of the track
-pub whole : {A : Type 0} (f : Track → A) (t : Track) {r : A} → length t.islands ≡ 5 → r ≡ f (five t) → r ≡ f t
-whole f t e h = h ∙ ap f (sym (is_five t e))
 
 -- "some" of a list is what the library's `any` finds
 pub any_is : {A : Type 0} (p : A → Bool) (l : List A) → list_any p l ≡ any p l

@@ -9,7 +9,7 @@ mod shown;
 
 pub use holding::held_up;
 pub use limits::{live_tracks, within_limits};
-pub use marks::{detector_now, free_now, island_at, occupied_now, with_island};
+pub use marks::{FREE, detector_now, free_now, island_at, occupied_now, with_island};
 pub use shown::{signs_of, some_failed, some_occupied};
 
 // What is asked of a track: a fresh approaching island; an island that counts for the greatest

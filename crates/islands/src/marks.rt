@@ -5,7 +5,8 @@ ghost use Rattle.rules.specs.Station.{approaching, going_away, island_at};
 
 use rules::{Island, Track};
 
-const FREE: Island = Island {
+// A free island, whose detector works.
+pub const FREE: Island = Island {
     occupied: false,
     leaving: false,
     failed: false,
@@ -16,22 +17,20 @@ const FREE: Island = Island {
 pub fn island_at(track: Track, number: u8) -> Island
     ensures { result ≡ island_at track number }
 {
-    match track.islands.get(usize::from(number)) {
-        Some(island) => *island,
-        None => FREE,
-    }
+    let at = usize::from(number);
+    track.islands.get(at).copied().unwrap_or(FREE)
 }
 
 fn approaching(island: Island) -> bool
     ensures { result ≡ approaching island }
 {
-    island.occupied & !island.leaving
+    island.occupied && !island.leaving
 }
 
 fn going_away(island: Island) -> bool
     ensures { result ≡ going_away island }
 {
-    island.occupied & island.leaving
+    island.occupied && island.leaving
 }
 
 // The mark that an island gets at the moment it becomes occupied: whether it is leaving.
@@ -42,8 +41,8 @@ fn leaving_mark(track: Track, number: u8) -> bool
     let [advance_1, warning_1, crossing, warning_2, advance_2] = track.islands;
     match number {
         0 => going_away(warning_1),
-        1 => crossing.occupied & !approaching(advance_1),
-        3 => crossing.occupied & !approaching(advance_2),
+        1 => crossing.occupied && !approaching(advance_1),
+        3 => crossing.occupied && !approaching(advance_2),
         4 => going_away(warning_2),
         _ => false,
     }
@@ -86,13 +85,12 @@ pub fn detector_now(failed: bool, track: Track, number: u8) -> Island
 
 // The track with another island at a number; past the last one, the track as it is.
 #[tactic(auto, using(std::proofs::lemmas::List::set_past), unfolding(rules::specs::Reports::with_island))]
-pub fn with_island(track: Track, number: u8, island: Island) -> Track
+pub fn with_island(mut track: Track, number: u8, island: Island) -> Track
     ensures { result ≡ with_island track number island }
 {
-    let mut next = track;
     let at = usize::from(number);
-    if at < next.islands.len() {
-        next.islands[at] = island;
+    if at < track.islands.len() {
+        track.islands[at] = island;
     }
-    next
+    track
 }

@@ -52,40 +52,47 @@ module _ (text : List ℕ) (end close : ℕ) where
   unfolding behind
   behind_is e f = λ i. by (e i) (f i)
 
+  -- nothing that may stand there
+  pub neither_found : None ≡ behind text end close → (next.octet ≡ close → ⊥) × (next.octet ≡ 0x2C → ⊥)
+  neither_found e =
+      by_test (eqb next.octet close) (λ h. absurd (let f = e ∙ behind_is h refl in cc))
+      (λ h. by_test (eqb next.octet 0x2C) (λ k. absurd (let f = e ∙ behind_is h k in cc))
+      (λ k. (λ x. absurd (let f = sym h ∙ eq-eqb _ _ x in cc), λ x. absurd (let f = sym k ∙ eq-eqb _ _ x in cc))))
+
+  -- the closing bracket
+  pub end_found : (r : ℕ) → Some (After.End r) ≡ behind text end close → (next.octet ≡ close) × (r ≡ next.place + 1)
+  end_found r e =
+      by_test (eqb next.octet close) (λ h. (eqb-true _ _ h, let f = e ∙ behind_is h refl in cc))
+      (λ h. by_test (eqb next.octet 0x2C) (λ k. absurd (let f = e ∙ behind_is h k in cc))
+      (λ k. absurd (let f = e ∙ behind_is h k in cc)))
+
+  -- another item
+  pub item_found : (n : Next) → Some (After.Item n) ≡ behind text end close
+      → (next.octet ≡ close → ⊥) × (next.octet ≡ 0x2C) × (n ≡ next_from text (next.place + 1))
+  item_found n e =
+      by_test (eqb next.octet close) (λ h. absurd (let f = e ∙ behind_is h refl in cc))
+      (λ h. by_test (eqb next.octet 0x2C)
+      (λ k. (λ x. absurd (let f = sym h ∙ eq-eqb _ _ x in cc), eqb-true _ _ k, let f = e ∙ behind_is h k in cc))
+      (λ k. absurd (let f = e ∙ behind_is h k in cc)))
+
   module _ {item : List ℕ → ℕ} {whole : Option ℕ} {place : ℕ} (w : Walking close item text whole place)
       (read : Some end ≡ past place (item (drop place text))) where
     here : Item item text place next.place next.octet
     here = record { end = end; read = read; skips = refl; octet = refl }
 
-    -- nothing that may stand there
     pub neither : None ≡ behind text end close → None ≡ whole
-    neither e =
-        by_test (eqb next.octet close) (λ h. absurd (let f = e ∙ behind_is h refl in cc))
-        (λ h. by_test (eqb next.octet 0x2C) (λ k. absurd (let f = e ∙ behind_is h k in cc))
-        (λ k. breaks w here (λ x. absurd (let f = sym h ∙ eq-eqb _ _ x in cc))
-        (λ x. absurd (let f = sym k ∙ eq-eqb _ _ x in cc))))
+    neither e = let found = neither_found e in breaks w here found.0 found.1
 
-    -- the closing bracket
     pub ended : (r : ℕ) → Some (After.End r) ≡ behind text end close → Some r ≡ whole
-    ended r e =
-        by_test (eqb next.octet close) (λ h. (let f = e ∙ behind_is h refl in cc) ∙ closes w here (eqb-true _ _ h))
-        (λ h. by_test (eqb next.octet 0x2C) (λ k. absurd (let f = e ∙ behind_is h k in cc))
-        (λ k. absurd (let f = e ∙ behind_is h k in cc)))
+    ended r e = let found = end_found r e in ap Some found.1 ∙ closes w here found.0
 
-    -- another item
     pub another : (n : Next) → Some (After.Item n) ≡ behind text end close
         → Walking close item text whole n.place × (n.octet ≡ at text n.place) × (place < n.place)
     another n e =
-        by_test (eqb next.octet close) (λ h. absurd (let f = e ∙ behind_is h refl in cc))
-        (λ h. by_test (eqb next.octet 0x2C) (λ k. taken n (let f = e ∙ behind_is h k in cc) h (eqb-true _ _ k))
-        (λ k. absurd (let f = e ∙ behind_is h k in cc)))
-      where
-        taken : (n : Next) → n ≡ next_from text (next.place + 1) → eqb next.octet close ≡ false → next.octet ≡ 0x2C
-            → Walking close item text whole n.place × (n.octet ≡ at text n.place) × (place < n.place)
-        taken n e h k =
-            let on = goes_on_lem w here (λ x. absurd (let f = sym h ∙ eq-eqb _ _ x in cc)) _ refl k in
-            let (size, some) = some_read place (item (drop place text)) end read in (
-              subst (λ m. Walking close item text whole m.place) (sym e) on,
-              ap (λ m. m.octet) e ∙ sym (ap (λ m. at text m.place) e),
-              omega (arith, ap (λ m. m.place) e),
-            )
+        let (other, comma, is) = item_found n e in
+        let on = goes_on_lem w here other _ refl comma in
+        let (size, some) = some_read place (item (drop place text)) end read in (
+          subst (λ m. Walking close item text whole m.place) (sym is) on,
+          ap (λ m. m.octet) is ∙ sym (ap (λ m. at text m.place) is),
+          omega (arith, ap (λ m. m.place) is),
+        )

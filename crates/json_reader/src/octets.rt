@@ -5,7 +5,7 @@ ghost use Rattle.rules_json.specs.Reader.{at, blanks as blanks_at_head, digits a
 
 // An octet and its place.
 #[derive(Clone, Copy)]
-pub(crate) struct Next {
+pub struct Next {
     pub place: usize,
     pub octet: u8,
 }

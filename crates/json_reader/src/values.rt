@@ -69,7 +69,7 @@ fn object(text: &[u8], at: usize, deep: u8) -> Option<usize>
     while item.place < text.len() {
         let inner = member_name(text, item.place)?;
         let past = value(text, inner, inside)?;
-        match behind(text, past, b'}')? {
+        match behind_member(text, past)? {
             After::Item(next) => item = next,
             After::End(end) => return Some(end),
         }
@@ -80,7 +80,7 @@ fn object(text: &[u8], at: usize, deep: u8) -> Option<usize>
 // What stands behind an item: a comma and another item, or the closing bracket, past which the list or
 // object ends.
 #[derive(Clone, Copy)]
-pub(crate) enum After {
+pub enum After {
     Item(Next),
     End(usize),
 }
@@ -99,6 +99,13 @@ fn behind(text: &[u8], past: usize, close: u8) -> Option<After>
         return Some(After::Item(past_blanks(text, next.place + 1)));
     }
     None
+}
+
+// What stands behind a member that ends at a place.
+pub fn behind_member(text: &[u8], past: usize) -> Option<After>
+    ensures { result ≡ item_behind text.now past 0x7D }
+{
+    behind(text, past, b'}')
 }
 
 // Past a string, a literal or a number, by the octet at its place.

@@ -2,18 +2,16 @@
 // cannot be read, to standard output. What is written is all in sheet::print, and proved there.
 #![tactic(auto)]
 
+use sheet::MOST_BYTES;
 use std::io;
 use std::process::ExitCode;
 use verb::Status;
 
+// One byte more than a register has: more is refused, and nobody needs the rest.
+const ROOM: usize = MOST_BYTES + 1;
+
 fn main(rt: HostRuntime) -> ExitCode {
-    // One byte more than a register has: more is refused, and nobody needs the rest.
-    let mut room = [0u8; 65537];
-    let input = verb::read(&rt, &mut room);
-    if verb::input_failed(&rt) {
-        return ExitCode::SUCCESS;
-    }
-    verb::ended(&rt, printed(&rt, input))
+    verb::over_input(&rt, &mut [0u8; ROOM], |input| printed(&rt, input))
 }
 
 fn printed(rt: &impl Print, input: &[u8]) -> io::Result<Status> {

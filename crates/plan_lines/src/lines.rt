@@ -7,6 +7,7 @@ ghost use Rattle.rules_plan.specs.Words.{words};
 use crate::names::name_of;
 use crate::numbers::{filled, understood};
 use crate::words::{Words, uncommented};
+use rules::Report;
 use rules_plan::{Fault, Spoken, Word};
 
 // What a line says, without its line feed.
@@ -20,7 +21,7 @@ pub fn line_in(line: &[u8]) -> Spoken
     match words.next() {
         None => Spoken {
             word: None,
-            numbers: reports::report(0, 0, 0, 0, 0),
+            numbers: Report::default(),
             understood: Ok(()),
         },
         Some(word) => line_said(name_of(word), words),

@@ -91,7 +91,7 @@ fn sixteen_bits(words: &mut Words<'_>) -> u16
     words.next().and_then(digits::number_in).unwrap_or(0)
 }
 
-// What the numbers behind a name fill: for a setting its one number, or a report of its kind. The last is of any
+// What the numbers behind a name fill: for a setting its one number, or a report of its kind. A `report` is of any
 // numbers, so that one can be entered that is refused.
 #[tactic(auto, unfolding(rules_plan::specs::Lines::numbers_of))]
 pub(crate) fn filled(word: Word, mut behind: Words<'_>) -> Report
@@ -115,6 +115,6 @@ pub(crate) fn filled(word: Word, mut behind: Words<'_>) -> Report
             byte(words),
             sixteen_bits(words),
         ),
-        Word::Other => reports::report(0, 0, 0, 0, 0),
+        Word::Other => Report::default(),
     }
 }

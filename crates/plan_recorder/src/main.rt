@@ -3,8 +3,6 @@
 // nothing is recorded. What a text means is all in recorder::record, and proved there.
 #![tactic(auto)]
 
-ghost use Rattle.std.specs.Prelude.{◌≤◌};
-
 mod misread;
 mod telling;
 
@@ -16,22 +14,20 @@ use verb::Status;
 
 // The most bytes that a text has: 8,190 reports of 32 bytes each, comments among them. It is a limit of
 // this program, whose room is on the stack, and of no rule.
-const MOST_TEXT: usize = 262144;
+pub(crate) const MOST_TEXT: usize = 262144;
+
+// One byte more, to tell that there are more.
+const ROOM: usize = MOST_TEXT + 1;
 
 fn main(rt: HostRuntime) -> ExitCode {
-    let mut room = [0u8; 262145];
-    let text = verb::read(&rt, &mut room);
-    if verb::input_failed(&rt) {
-        return ExitCode::SUCCESS;
-    }
-    if MOST_TEXT < text.len() {
-        misread::too_long(&rt);
-        return verb::ended(&rt, Ok(Status::Refused));
-    }
-    verb::ended(&rt, recorded(&rt, text))
+    verb::over_input(&rt, &mut [0u8; ROOM], |text| recorded(&rt, text))
 }
 
 fn recorded(rt: &(impl Eprint + Print), text: &[u8]) -> io::Result<Status> {
+    if MOST_TEXT < text.len() {
+        misread::too_long(rt);
+        return Ok(Status::Refused);
+    }
     let mut register = [0u8; 65536];
     let mut rows = [0usize; 8190];
     match recorder::record(text, &mut register, &mut rows) {
@@ -51,15 +47,5 @@ fn recorded(rt: &(impl Eprint + Print), text: &[u8]) -> io::Result<Status> {
 // Writes exactly the filled bytes. A function of its own, since the length of an array is known by a
 // parameter's type.
 fn written(rt: &impl Print, register: &RegisterBytes, count: usize) -> io::Result<()> {
-    verb::write(rt, &register[..filled(count)])
-}
-
-fn filled(count: usize) -> usize
-    ensures { result ≤ 65536 }
-{
-    if count <= MOST {
-        HEADER + ENTRY * count
-    } else {
-        HEADER
-    }
+    verb::write(rt, &register[..HEADER + ENTRY * count.min(MOST)])
 }

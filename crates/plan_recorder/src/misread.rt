@@ -1,11 +1,15 @@
 // What is wrong with a text, and on which line, which is shown.
+use crate::MOST_TEXT;
 use rules_plan::{Fault, Misread};
 
 // As much of a line as is shown.
 const SHOWN: usize = 72;
 
 pub(crate) fn too_long(rt: &impl Eprint) {
-    verb::tell(rt, "the text has more than 262144 bytes\n");
+    verb::tell(
+        rt,
+        format_args!("the text has more than {MOST_TEXT} bytes\n"),
+    );
     nothing(rt);
 }
 
@@ -51,7 +55,8 @@ fn line_of(text: &[u8], line: usize) -> &[u8] {
     lines.nth(line.saturating_sub(1)).unwrap_or(&[])
 }
 
-// A line, set in, without the carriage return at its end. Whatever could move a terminal's cursor is shown as a question mark.
+// A line, set in, without the carriage return at its end. Whatever could move a terminal's cursor is shown as
+// a question mark.
 fn shown(rt: &impl Eprint, line: &[u8]) {
     verb::tell(rt, "    ");
     for &found in line.strip_suffix(b"\r").unwrap_or(line).iter().take(SHOWN) {

@@ -1,9 +1,7 @@
 // What was entered: each report that was refused, with its line and its row, and how many there are.
 use recorder::{RegisterBytes, RowLines};
+use register::ANSWER;
 use rules::{ENTRY, HEADER, Refusal};
-
-// Where an entry has its answer.
-const ANSWER: usize = 6;
 
 pub(crate) fn told(rt: &impl Eprint, register: &RegisterBytes, rows: &RowLines, count: usize) {
     let mut refused: usize = 0;

@@ -7,11 +7,12 @@ use mathlib.Core.Bool.{Bool, cond, false, not, true}
 use mathlib.Core.List.{List, [], ◌∷◌}
 use mathlib.Core.Path.{◌≡◌, ap, sym, ◌∙◌}
 use lib.Dec.{eqb}
-use lib.ListN.{length, length-drop}
+use lib.ListN.{length, length-drop, replicate}
 use Rattle.plan_lines.proofs.WordFaults.{some_fault}
 use Rattle.rules.specs.Words.{◌if◌then◌}
+use Rattle.rules.specs.declared.Settings.{Settings}
 use Rattle.rules_plan.specs.Answered.{fault_number}
-use Rattle.rules_plan.specs.Faults.{all_given, checked_from, line_fault, with_line}
+use Rattle.rules_plan.specs.Faults.{all_given, checked_from, line_fault, nothing_said, with_line}
 use Rattle.rules_plan.specs.Lines.{line_of}
 use Rattle.rules_plan.specs.Words.{line_feed, lines, mark_size, onto, pieces, unmarked}
 use Rattle.rules_plan.specs.declared.Checked.{Checked}
@@ -19,6 +20,8 @@ use Rattle.rules_plan.specs.declared.Fault.{Fault}
 use Rattle.rules_plan.specs.declared.Misread.{Misread}
 use Rattle.recorder.specs.Saying.{SaidWith, checked_in}
 use Rattle.std.proofs.Common.{Err, Ok, Result}
+use Rattle.std.proofs.lemmas.List.FromFn.{fill_by_all}
+use Rattle.std.specs.Array.{AllOfLen}
 use Rattle.std.specs.Result.{MatchResult}
 use Rattle.rules_plan.specs.declared.Line.{Line}
 use Rattle.rules_plan.specs.declared.Said.{Said}
@@ -42,6 +45,26 @@ pieces_few (b ∷ text) = by_test (line_feed b) (pieces_few text)
 pub lines_few : (text : List ℕ) → length (lines (unmarked text)) ≤ length text
 unfolding unmarked
 lines_few text = omega (arith, pieces_few (unmarked text), length-drop (mark_size text) text)
+
+-- ---- before the first line
+
+-- no setting is given where none of the six is
+none_given : (given : List Bool) → AllOfLen (λ g. g ≡ false) given 6 → given ≡ replicate 6 false
+none_given given r = fill_by_all (λ _. false) given 6 false r.long (λ k h. r.at k false h)
+
+-- as Default has the settings
+abbrev AllZero : Settings → Type 0
+AllZero c = (c.tracks ≡ 0) × ((c.t1 ≡ 0) × ((c.t2 ≡ 0) × ((c.t3 ≡ 0) × ((c.t4 ≡ 0) × (c.t5 ≡ 0)))))
+
+pub said_nothing : (s : Said) → AllOfLen (λ g. g ≡ false) s.given 6 × (AllZero s.settings × (s.reports ≡ 0))
+    → s ≡ nothing_said
+unfolding nothing_said
+said_nothing s (given, ((tracks, (t1, (t2, (t3, (t4, t5))))), reports)) =
+    λ i. record {
+      given = none_given s.given given i;
+      settings = record { tracks = tracks i; t1 = t1 i; t2 = t2 i; t3 = t3 i; t4 = t4 i; t5 = t5 i };
+      reports = reports i;
+    }
 
 -- ---- a turn
 

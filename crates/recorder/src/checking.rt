@@ -4,7 +4,7 @@ ghost use Rattle.recorder.specs.Saying.{checked_in};
 ghost use Rattle.rules_plan.specs.Faults.{checked};
 
 use crate::parting::Lines;
-use crate::saying::{all_given, nothing_said, with_line};
+use crate::saying::{all_given, with_line};
 use plan_lines::line_in;
 use rules_plan::{Misread, Said};
 
@@ -12,11 +12,12 @@ use rules_plan::{Misread, Said};
 pub(crate) fn check(text: &[u8]) -> Result<Said, Misread>
     ensures { checked_in (checked text.now).said result ≡ checked text.now }
 {
-    let mut said = nothing_said();
-    let mut line: usize = 0;
-    for found in Lines::of(text) {
-        line += 1;
-        said = with_line(said, line_in(found)).map_err(|fault| Misread::AtLine { line, fault })?;
+    let mut said = Said::default();
+    for (line, found) in Lines::of(text).enumerate() {
+        said = with_line(said, line_in(found)).map_err(|fault| Misread::AtLine {
+            line: line + 1,
+            fault,
+        })?;
     }
     if all_given(said) {
         Ok(said)

@@ -25,14 +25,12 @@ pub(crate) fn fill(
     // Settings within their limits are never refused, and there is room for any register.
     register::start(register, settings).unwrap();
     let mut station = station::make(settings).unwrap();
-    let mut line: usize = 0;
     let mut count: usize = 0;
-    for found in Lines::of(text) {
-        line += 1;
+    for (line, found) in Lines::of(text).enumerate() {
         if let Some(report) = report_in(line_in(found)) {
             // A report that is refused is entered too, and leaves the station as it was.
             station = register::append(register, count, station, report).unwrap_or(station);
-            put_line(rows, count, line);
+            put_line(rows, count, line + 1);
             count += 1;
         }
     }

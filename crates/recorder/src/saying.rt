@@ -4,29 +4,11 @@ ghost use Rattle.recorder.specs.Saying.{SaidWith, setting_line};
 ghost use Rattle.rules.specs.Answered.{given};
 ghost use Rattle.rules.specs.Screen.{provided};
 ghost use Rattle.rules_plan.specs.Answered.{said_line, setting_number};
-ghost use Rattle.rules_plan.specs.Faults.{all_given, nothing_said, with_setting};
+ghost use Rattle.rules_plan.specs.Faults.{all_given, with_setting};
 ghost use Rattle.rules_plan.specs.Lines.{is_report};
 
 use rules::{MOST, Report, Settings};
 use rules_plan::{Fault, Said, Setting, Spoken, Word};
-
-#[tactic(auto, unfolding(rules_plan::specs::Faults::nothing_said))]
-pub(crate) fn nothing_said() -> Said
-    ensures { result ≡ nothing_said }
-{
-    Said {
-        given: [false; 6],
-        settings: Settings {
-            tracks: 0,
-            t1: 0,
-            t2: 0,
-            t3: 0,
-            t4: 0,
-            t5: 0,
-        },
-        reports: 0,
-    }
-}
 
 pub(crate) fn all_given(said: Said) -> bool
     ensures { result ≡ all_given said }
@@ -101,31 +83,14 @@ fn place_of(setting: Setting) -> usize
 fn set(settings: Settings, setting: Setting, numbers: Report) -> Settings
     ensures { result ≡ with_setting settings (setting_line setting numbers) }
 {
-    let value = numbers.value;
+    let mut next = settings;
     match setting {
-        Setting::Tracks => Settings {
-            tracks: numbers.a,
-            ..settings
-        },
-        Setting::T1 => Settings {
-            t1: value,
-            ..settings
-        },
-        Setting::T2 => Settings {
-            t2: value,
-            ..settings
-        },
-        Setting::T3 => Settings {
-            t3: value,
-            ..settings
-        },
-        Setting::T4 => Settings {
-            t4: value,
-            ..settings
-        },
-        Setting::T5 => Settings {
-            t5: value,
-            ..settings
-        },
+        Setting::Tracks => next.tracks = numbers.a,
+        Setting::T1 => next.t1 = numbers.value,
+        Setting::T2 => next.t2 = numbers.value,
+        Setting::T3 => next.t3 = numbers.value,
+        Setting::T4 => next.t4 = numbers.value,
+        Setting::T5 => next.t5 = numbers.value,
     }
+    next
 }

@@ -2,62 +2,62 @@
 // What is handed in is not looked at: whether the station has the track, island or head, and takes
 // the value, the report's answer says.
 ghost use Rattle.std.specs.Prelude.{◌≡◌};
-ghost use Rattle.rules.specs.OfEachKind.{clock as OfEachKind·clock, condition as OfEachKind·condition, failed as OfEachKind·failed, freed as OfEachKind·freed, normalised, occupied as OfEachKind·occupied, report as OfEachKind·report, restored as OfEachKind·restored};
+ghost use Rattle.rules.specs.OfEachKind.{clock, condition, failed, freed, normalised, occupied, report, restored};
 
 use rules::{Kind, Report};
 
 // Island occupied.
 pub fn occupied(track: u8, island: u8) -> Report
-    ensures { result ≡ OfEachKind·occupied track island }
+    ensures { result ≡ occupied track island }
 {
-    report(Kind::IslandOccupied as u8, track, island, 0, 0)
+    report(Kind::IslandOccupied.into(), track, island, 0, 0)
 }
 
 // Island free.
 pub fn freed(track: u8, island: u8) -> Report
-    ensures { result ≡ OfEachKind·freed track island }
+    ensures { result ≡ freed track island }
 {
-    report(Kind::IslandFree as u8, track, island, 0, 0)
+    report(Kind::IslandFree.into(), track, island, 0, 0)
 }
 
 // Clock: so many ticks have gone.
 pub fn clock(ticks: u16) -> Report
-    ensures { result ≡ OfEachKind·clock ticks }
+    ensures { result ≡ clock ticks }
 {
-    report(Kind::Clock as u8, 0, 0, 0, ticks)
+    report(Kind::Clock.into(), 0, 0, 0, ticks)
 }
 
 // Detector failed.
 pub fn failed(track: u8, island: u8) -> Report
-    ensures { result ≡ OfEachKind·failed track island }
+    ensures { result ≡ failed track island }
 {
-    report(Kind::DetectorFailed as u8, track, island, 0, 0)
+    report(Kind::DetectorFailed.into(), track, island, 0, 0)
 }
 
 // Detector restored.
 pub fn restored(track: u8, island: u8) -> Report
-    ensures { result ≡ OfEachKind·restored track island }
+    ensures { result ≡ restored track island }
 {
-    report(Kind::DetectorRestored as u8, track, island, 0, 0)
+    report(Kind::DetectorRestored.into(), track, island, 0, 0)
 }
 
 // Head condition: which parts of a head have failed.
 pub fn condition(head: u8, parts: u16) -> Report
-    ensures { result ≡ OfEachKind·condition head parts }
+    ensures { result ≡ condition head parts }
 {
-    report(Kind::HeadCondition as u8, head, 0, 0, parts)
+    report(Kind::HeadCondition.into(), head, 0, 0, parts)
 }
 
 // Normalise.
 pub fn normalise() -> Report
     ensures { result ≡ normalised }
 {
-    report(Kind::Normalise as u8, 0, 0, 0, 0)
+    report(Kind::Normalise.into(), 0, 0, 0, 0)
 }
 
 // Any six bytes, of whatever kind.
 pub fn report(kind: u8, a: u8, b: u8, spare: u8, value: u16) -> Report
-    ensures { result ≡ OfEachKind·report kind a b spare value }
+    ensures { result ≡ report kind a b spare value }
 {
     Report {
         kind,

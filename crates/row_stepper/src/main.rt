@@ -15,14 +15,11 @@ use verb::Status;
 // A row that no register has.
 const NO_ROW: usize = 65536;
 
+// One byte more than a register has: more is refused before any other test, as by the printer.
+const ROOM: usize = MOST_BYTES + 1;
+
 fn main(rt: HostRuntime) -> ExitCode {
-    // One byte more than a register has: more is refused before any other test, as by the printer.
-    let mut room = [0u8; 65537];
-    let input = verb::read(&rt, &mut room);
-    if verb::input_failed(&rt) {
-        return ExitCode::SUCCESS;
-    }
-    verb::ended(&rt, rows(&rt, input))
+    verb::over_input(&rt, &mut [0u8; ROOM], |input| rows(&rt, input))
 }
 
 // The rows one after the other, up to the first that cannot be written.

@@ -1,5 +1,6 @@
 // A row's lines, and an empty one behind them.
 use crate::reported::report;
+use register::ANSWER;
 use rules::{Refusal, Station, TrackPresence, Unread, ZoneDigits};
 use std::io;
 
@@ -42,11 +43,11 @@ pub(crate) fn row(rt: &impl Print, entry: &[u8], after: Station) -> io::Result<(
 
 // Row 0 has no entry, so that its part is empty. An entry has its answer behind the report.
 fn entered(rt: &impl Print, entry: &[u8]) -> io::Result<()> {
-    if entry.len() < 7 {
+    let Some(&number) = entry.get(ANSWER) else {
         return verb::write(rt, b"report    none, the fresh station\n");
-    }
+    };
     report(rt, register::report_in(entry))?;
-    answer(rt, entry[6])
+    answer(rt, number)
 }
 
 // The answer of an entry: no other than 0 to 7 is entered.

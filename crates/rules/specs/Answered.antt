@@ -60,6 +60,15 @@ kind_named (Ok Kind.DetectorRestored) = detector_restored
 kind_named (Ok Kind.HeadCondition) = head_condition
 kind_named (Ok Kind.Normalise) = normalise
 
+abbrev pub kind_number : Kind → ℕ
+kind_number Kind.IslandOccupied = 1
+kind_number Kind.IslandFree = 2
+kind_number Kind.Clock = 3
+kind_number Kind.DetectorFailed = 4
+kind_number Kind.DetectorRestored = 5
+kind_number Kind.HeadCondition = 6
+kind_number Kind.Normalise = 7
+
 -- the kind with a number, or 1
 abbrev pub KindNumbered : ℕ → Result Kind Refusal → Type 0
 KindNumbered number r = (kind_named r ≡ kind_of number) × IfErr r (λ refusal. refusal ≡ Refusal.NoSuchKind)

@@ -4,7 +4,7 @@
 #![tactic(auto)]
 
 ghost use Rattle.std.specs.Prelude.{◌≡◌, Err};
-ghost use Rattle.rules.specs.Answered.{AspectNumbered, KindNumbered, RefusalNumbered, answered, aspect_number, reading_in, refusal_number};
+ghost use Rattle.rules.specs.Answered.{AspectNumbered, KindNumbered, RefusalNumbered, answered, aspect_number, kind_number, reading_in, received_in, refusal_number, sited_in, written_in};
 ghost use Rattle.rules.specs.declared.Unread.TheVariants.{Refused};
 
 use std::fmt;
@@ -13,7 +13,7 @@ use std::fmt;
 
 // The number of tracks, and the timers in ticks. A tick is a tenth of a second.
 #[repr(C)]
-#[derive(Clone, Copy, PartialEq, Eq)]
+#[derive(Clone, Copy, Default, PartialEq, Eq)]
 pub struct Settings {
     pub tracks: u8,
     pub t1: u16,
@@ -63,7 +63,7 @@ pub struct Made {
 
 // Six bytes: the value has sixteen bits, low byte first.
 #[repr(C)]
-#[derive(Clone, Copy)]
+#[derive(Clone, Copy, Default)]
 pub struct Report {
     pub kind: u8,
     pub a: u8,
@@ -102,6 +102,14 @@ impl TryFrom<u8> for Kind {
             7 => Ok(Self::Normalise),
             _ => Err(Refusal::NoSuchKind),
         }
+    }
+}
+
+impl From<Kind> for u8 {
+    ghost from_gives = { λ kind number. number ≡ kind_number kind };
+
+    fn from(kind: Kind) -> Self {
+        kind as u8
     }
 }
 
@@ -249,6 +257,24 @@ pub struct Sited {
     pub distance: Decimetres,
 }
 
+// Refused siting returns distance 0.
+impl From<Result<Decimetres, Refusal>> for Sited {
+    ghost from_gives = { λ outcome sited. sited ≡ sited_in outcome };
+
+    fn from(outcome: Result<Decimetres, Refusal>) -> Self {
+        match outcome {
+            Ok(distance) => Self {
+                answer: DONE,
+                distance,
+            },
+            Err(refusal) => Self {
+                answer: refusal.into(),
+                distance: Decimetres(0),
+            },
+        }
+    }
+}
+
 impl From<u16> for Seconds {
     ghost from_gives = { λ number seconds. seconds ≡ record { 0 = number } };
 
@@ -354,7 +380,7 @@ pub const DONE: u8 = 0;
 pub const NOT_REPLAYED: u8 = 13;
 
 // What a report, setting, register or text is refused with, by number. 13 names an entry: it is a case of
-// Unread. The definitions have the same names in specs/Numbers.antt.
+// Unread. The definitions have these names in specs/Numbers.antt.
 #[derive(Clone, Copy, Debug, PartialEq, Eq)]
 pub enum Refusal {
     NoSuchKind = 1,
@@ -494,4 +520,43 @@ pub struct Received {
 pub struct Written {
     pub answer: u8,
     pub length: usize,
+}
+
+impl From<Result<Message, Refusal>> for Received {
+    ghost from_gives = { λ outcome received. received ≡ received_in outcome };
+
+    fn from(outcome: Result<Message, Refusal>) -> Self {
+        match outcome {
+            Ok(message) => Self {
+                answer: DONE,
+                message,
+            },
+            Err(refusal) => Self {
+                answer: refusal.into(),
+                message: Message {
+                    station: 0,
+                    aspect: 0,
+                    tracks: 0,
+                    digits: [0; 20],
+                },
+            },
+        }
+    }
+}
+
+impl From<Result<usize, Refusal>> for Written {
+    ghost from_gives = { λ outcome written. written ≡ written_in outcome };
+
+    fn from(outcome: Result<usize, Refusal>) -> Self {
+        match outcome {
+            Ok(length) => Self {
+                answer: DONE,
+                length,
+            },
+            Err(refusal) => Self {
+                answer: refusal.into(),
+                length: 0,
+            },
+        }
+    }
 }

@@ -132,7 +132,7 @@ impl From<Spoken> for Line {
 
 // What the lines so far have said: which settings, in the order of their words, and what they are; and
 // how many reports.
-#[derive(Clone, Copy)]
+#[derive(Clone, Copy, Default)]
 pub struct Said {
     pub given: [bool; 6],
     pub settings: Settings,

@@ -5,17 +5,21 @@ use mathlib.Core.Bool.{and-false, ◌&&◌}
 use mathlib.Core.List.{List, []}
 use mathlib.Core.Option as Math
 use mathlib.Core.Option.{none, some}
-use mathlib.Core.Path.{◌≡◌, ap, refl, subst, sym, ◌∙◌}
+use mathlib.Core.Path.{◌≡◌, ap, refl, sym, ◌∙◌}
 use native.Mathlib.Omega.{arith}
 use borrow.Author.Tests.{le-leb, lt-leb}
 use lib.Dec.{leb}
 use lib.ListN.{drop, length}
 use Rattle.std.specs.Bool.{then_some}
-use Rattle.std.specs.Prelude.{None, Option, Some}
+use Rattle.std.specs.Prelude.{Err, None, Ok, OkIff, Option, Result, Some}
+use Rattle.std.specs.Result.{result_ok}
+use Rattle.rules.specs.Answered.{AspectNumbered, aspect_number}
+use Rattle.rules.specs.declared.Aspect.{Aspect}
+use Rattle.rules.specs.declared.NoSuchAspect.{NoSuchAspect}
 use Rattle.rules.specs.Screen.{and_then, aspect_in, first, is_there, number_of, or_else, padded}
 use Rattle.rules.specs.Screen.{provided, station_in, tracks_in, tracks_of}
 use Rattle.rules_json.specs.Grammar.{joined}
-use Rattle.rules_json.specs.Reader.{value_said, value_size}
+use Rattle.rules_json.specs.Reader.{value_said}
 use Rattle.rules_json.specs.Tree.{Member, Tree}
 use Rattle.screen.proofs.Counting.{number_up_to}
 use Rattle.screen.specs.Places.{Place, Places, message_given, number_here, placed, shown_of}
@@ -32,9 +36,6 @@ module _ {text : List ℕ} {members : List (Member (Tree 7))} {name : List ℕ} 
   module _ {place : ℕ} (e : was ≡ Some place) where
     present : first name members ≡ some (value_said 7 (drop place text))
     present = sym p.found ∙ ap (placed text) e
-
-    there : value_size 7 (drop place text) ≡ 0 → ⊥
-    there = (subst (Place text members name) e p).there
 
     -- a number up to a most
     number_in : (most : ℕ) → most ≤ 65535
@@ -83,6 +84,33 @@ shown_some : (t : Math.Option (List (List ℕ))) (shown : Shown) → Some shown 
 shown_some none shown e = absurd (cc)
 shown_some (some tracks) shown e = (tracks, refl, cc)
 
+-- ---- an aspect by its number
+
+pub above_bytes : {E : Type 0} (r : Result ℕ E) (n : ℕ) → None ≡ result_ok r → OkIff r (n < 256) n → 5 < n
+above_bytes (Ok m) n z h = absurd (cc)
+above_bytes (Err f) n z h = omega arith
+
+pub byte_is : {E : Type 0} (r : Result ℕ E) (n m : ℕ) → Some m ≡ result_ok r → OkIff r (n < 256) n → m ≡ n
+byte_is (Ok k) n m z h = cc
+byte_is (Err f) n m z h = absurd (cc)
+
+pub above_aspects : (r : Result Aspect NoSuchAspect) (n : ℕ) → None ≡ result_ok r → AspectNumbered n r → 5 < n
+above_aspects (Ok aspect) n z h = absurd (cc)
+above_aspects (Err e) n z h = h.1
+
+pub aspect_is : (r : Result Aspect NoSuchAspect) (n : ℕ) (aspect : Aspect) → Some aspect ≡ result_ok r
+    → AspectNumbered n r → aspect_number aspect ≡ n
+aspect_is (Ok k) n aspect z h = cc
+aspect_is (Err e) n aspect z h = absurd (cc)
+
+pub aspects : (aspect : Aspect) → aspect_number aspect ≤ 5
+aspects Aspect.Permitted = omega arith
+aspects Aspect.Clearing = omega arith
+aspects Aspect.Forbidden = omega arith
+aspects Aspect.GreatestRisk = omega arith
+aspects Aspect.Surroundings = omega arith
+aspects Aspect.OutOfService = omega arith
+
 -- ---- our three members
 
 module _ {text : List ℕ} {members : List (Member (Tree 7))} {places : OurPlaces} (p : Places text members places) where
@@ -115,9 +143,6 @@ module _ {text : List ℕ} {members : List (Member (Tree 7))} {places : OurPlace
         aspect_missing members (aspect_by n ∙ ap (λ t. provided t aspect) (lt-leb aspect 5 h))
 
   module _ (t : ℕ) (et : places.tracks ≡ Some t) where
-    pub tracks_there : value_size 7 (drop t text) ≡ 0 → ⊥
-    tracks_there = there p.tracks et
-
     tracks_are : tracks_in members ≡ tracks_of (value_said 7 (drop t text))
     tracks_are = ap (λ o. and_then o tracks_of) (present p.tracks et)
 

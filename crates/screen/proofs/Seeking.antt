@@ -9,11 +9,14 @@ use lib.Dec.{eqb}
 use lib.ListN.{drop, length}
 use Rattle.std.specs.Prelude.{None, Option, Some}
 use Rattle.json_reader.proofs.Behind.{here, not_here}
-use Rattle.json_reader.proofs.Bracketed.{Item, Walking, begins, breaks, closes, empty, goes_on_lem, no_item, over}
+use Rattle.json_reader.proofs.Bracketed.{Item, Walking, begins, empty, no_item, over}
 use Rattle.json_reader.proofs.Nested.{member, no_name, object_value}
 use Rattle.json_reader.proofs.Places.{in_text, text_behind}
 use Rattle.json_reader.proofs.Read.{some_read}
-use Rattle.json_reader.specs.Places.{past}
+use Rattle.json_reader.proofs.Walked.{another, end_found, ended, item_found, neither}
+use Rattle.json_reader.specs.Places.{behind, next_from, past}
+use Rattle.json_reader.specs.declared.octets.Next.{Next}
+use Rattle.json_reader.specs.declared.values.After.{After}
 use Rattle.rules.specs.Screen.{members_of}
 use Rattle.rules_json.specs.Reader.{at, blanks, bracketed_said, member_said, member_size, name_size, scalar_said}
 use Rattle.rules_json.specs.Reader.{string_size, string_units, value_said, value_size}
@@ -112,33 +115,30 @@ module _ {text : List ℕ} {start place : ℕ} {ours : OurPlaces} (d : Seeking t
       → None ≡ past inner (value_size 7 (drop inner text)) → None ≡ whole text start
   valueless {inner} v e = no_item d.walking (e ∙ member (value_size 7) text place inner v)
 
--- A member was read at a place, with what was found after it, and an octet behind it and its blanks.
-pub record MemberRead (text : List ℕ) (start place : ℕ) (ours next_ours : OurPlaces) (next octet : ℕ) : Type 0 where
+-- A member was read at a place, with what was found after it.
+pub record MemberRead (text : List ℕ) (start place : ℕ) (ours next_ours : OurPlaces) (end : ℕ) : Type 0 where
   pub so_far : Seeking text start place ours
   pub inner : ℕ
   pub named : Some inner ≡ past place (name_size (drop place text))
-  pub end : ℕ
   pub valued : Some end ≡ past inner (value_size 7 (drop inner text))
   pub found : next_ours ≡ with_member ours (string_units (drop place text)) inner
-  pub skips : next ≡ end + blanks (drop end text)
-  pub octet_is : octet ≡ at text next
 
-module _ {text : List ℕ} {start place : ℕ} {ours next_ours : OurPlaces} {next octet : ℕ}
-    (r : MemberRead text start place ours next_ours next octet) where
+module _ {text : List ℕ} {start place : ℕ} {ours next_ours : OurPlaces} {end : ℕ}
+    (r : MemberRead text start place ours next_ours end) where
+  abbrev next : Next
+  next = next_from text end
+
   walking : Walking 0x7D (member_size (value_size 7)) text (whole text start) place
   walking = r.so_far.walking
 
-  member_item : Item (member_size (value_size 7)) text place next octet
-  member_item =
-      record {
-        end = r.end;
-        read = r.valued ∙ member (value_size 7) text place r.inner r.named;
-        skips = r.skips;
-        octet = r.octet_is;
-      }
+  read : Some end ≡ past place (member_size (value_size 7) (drop place text))
+  read = r.valued ∙ member (value_size 7) text place r.inner r.named
 
-  pub broken : (octet ≡ 0x7D → ⊥) → (octet ≡ 0x2C → ⊥) → None ≡ whole text start
-  broken = breaks walking member_item
+  member_item : Item (member_size (value_size 7)) text place next.place next.octet
+  member_item = record { end = end; read = read; skips = refl; octet = refl }
+
+  pub broken : None ≡ behind text end 0x7D → None ≡ whole text start
+  broken e = neither text end 0x7D walking read e
 
   found_on : {left : List (Member (Tree 7))} → members_from text start place ≡ member_at (drop place text) ∷ left
       → AllFinding text (members text start) left next_ours
@@ -147,23 +147,26 @@ module _ {text : List ℕ} {start place : ℕ} {ours next_ours : OurPlaces} {nex
       r.inner
       (ap (value_said 7) (text_behind text place (name_size (drop place text))
       ∙ ap (λ k. drop k text) (sym (some_read place _ r.inner r.named).0)))
-      (some_read r.inner _ r.end r.valued).1
+      (some_read r.inner _ end r.valued).1
       r.found
 
-  pub object_ends : octet ≡ 0x7D → Outermost text start (Some record { past = next + 1; ours = next_ours })
-  object_ends e = (
-    closes walking member_item e,
-    all_done text (members text start) (found_on (said_last member_at walking member_item e)),
+  pub object_ends : {past : ℕ} → Some (After.End past) ≡ behind text end 0x7D
+      → Outermost text start (Some record { past = past; ours = next_ours })
+  object_ends {past} e = (
+    ended text end 0x7D walking read past e,
+    all_done text (members text start) (found_on (said_last member_at walking member_item (end_found text end 0x7D past
+        e).0)),
   )
 
-  pub member_on : octet ≡ 0x2C → {after : ℕ} → after ≡ next + 1 + blanks (drop (next + 1) text)
-      → Seeking text start after next_ours
-  member_on c {after} q =
-      record {
-        walking = goes_on_lem walking member_item (λ z. omega arith) after q c;
-        finding = found_on (said_on member_at walking member_item (λ z. omega arith) c after q);
-      }
-
-  pub behind_member : place < next
-  behind_member =
-      omega (arith, some_read place _ r.inner r.named, some_read r.inner _ r.end r.valued, r.skips)
+  pub member_on : (after : Next) → Some (After.Item after) ≡ behind text end 0x7D
+      → Seeking text start after.place next_ours × (place < after.place)
+  member_on after e =
+      let (other, comma, is) = item_found text end 0x7D after e in
+      let (on, octet, more) = another text end 0x7D walking read after e in (
+        record {
+          walking = on;
+          finding =
+              found_on (said_on member_at walking member_item other comma after.place (ap (λ m. m.place) is));
+        },
+        more,
+      )

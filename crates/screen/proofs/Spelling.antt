@@ -112,20 +112,21 @@ module _ (m : Message) (fits : message_fits m ≡ true) (twenty : length m.digit
   tracks_cut = cut m.digits m.tracks twenty so.least so.most
 
   -- what the code puts in a row
-  pub spelt : {number tracks : List ℕ} → number ≡ decimal m.station → tracks ≡ track_texts m.digits
+  pub spelt : {number tracks : List ℕ} {count : ℕ} → number ≡ decimal m.station → tracks ≡ track_texts m.digits
+      → count ≡ m.tracks
       → before_station
       ++ (number
-      ++ (before_aspect ++ ((48 + m.aspect) ∷ (before_tracks ++ (take (12 * m.tracks) tracks ++ octets "]}")))))
+      ++ (before_aspect ++ ((48 + m.aspect) ∷ (before_tracks ++ (take (12 * count) tracks ++ octets "]}")))))
       ≡ written m
   unfolding written
-  spelt {number} {tracks} e t =
+  spelt {number} {tracks} {count} e t n =
       (λ i. before_station ++ (e i ++ (before_aspect ++ (aspect i ++ (before_tracks ++ list i)))))
     where
       aspect : (48 + m.aspect) ∷ [] ≡ decimal m.aspect
       aspect = sym (decimal_digit m.aspect (omega (arith, so.aspect)))
 
-      list : take (12 * m.tracks) tracks ++ octets "]}" ≡ listed (texts decimal m.tracks m.digits) ++ octets "}"
+      list : take (12 * count) tracks ++ octets "]}" ≡ listed (texts decimal m.tracks m.digits) ++ octets "}"
       list =
-          ap (λ l. take (12 * m.tracks) l ++ octets "]}") t
+          (λ i. take (12 * n i) (t i) ++ octets "]}")
           ∙ sym (append_assoc shown (93 ∷ []) (125 ∷ []))
           ∙ ap (λ l. l ++ octets "}") (sym (ap listed (same_texts m.tracks m.digits so.digits) ∙ tracks_cut.0))

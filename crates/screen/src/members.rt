@@ -3,8 +3,8 @@ ghost use Rattle.std.specs.Prelude.{◌≡◌, drop};
 ghost use Rattle.rules_json.specs.Reader.{at as octet_at, string_size, string_units};
 ghost use Rattle.screen.specs.Places.{Outermost, with_member};
 
-use crate::names::first_of;
-use json_reader::{blanks, member_name, octet, value};
+use crate::names::says;
+use json_reader::{After, behind_member, blanks, member_name, octet, value};
 
 // Where the first value of each of our names begins.
 #[derive(Clone, Copy, Default)]
@@ -55,16 +55,9 @@ fn members(text: &[u8], at: usize) -> Option<Found>
         let inner = member_name(text, place)?;
         let past = value(text, inner, DEEPEST - 1)?;
         ours = with_member(ours, text, place, inner);
-        let behind = blanks(text, past);
-        match octet(text, behind) {
-            b',' => place = blanks(text, behind + 1),
-            b'}' => {
-                return Some(Found {
-                    past: behind + 1,
-                    ours,
-                });
-            }
-            _ => return None,
+        match behind_member(text, past)? {
+            After::Item(next) => place = next.place,
+            After::End(end) => return Some(Found { past: end, ours }),
         }
     }
     None
@@ -76,9 +69,14 @@ fn with_member(ours: OurPlaces, text: &[u8], at: usize, value: usize) -> OurPlac
     requires { string_size (drop at text.now) ≡ 0 → ⊥ }
     ensures { result ≡ with_member ours (string_units (drop at text.now)) value }
 {
+    let OurPlaces {
+        station,
+        aspect,
+        tracks,
+    } = ours;
     OurPlaces {
-        station: first_of(ours.station, text, at, b"station", value),
-        aspect: first_of(ours.aspect, text, at, b"aspect", value),
-        tracks: first_of(ours.tracks, text, at, b"tracks", value),
+        station: station.or_else(|| says(text, at, b"station").then_some(value)),
+        aspect: aspect.or_else(|| says(text, at, b"aspect").then_some(value)),
+        tracks: tracks.or_else(|| says(text, at, b"tracks").then_some(value)),
     }
 }

@@ -32,7 +32,7 @@ fn digits_of(station: Station) -> TrackDigits
     requires { within_limits station.settings ≡ true }
     ensures { result ≡ padded (joined (map track_digits (live station))) }
 {
-    let live = &station.tracks[..station.settings.tracks as usize];
+    let live = &station.tracks[..usize::from(station.settings.tracks)];
     let mut digits = [0; 20];
     for (n, track) in live.iter().enumerate() {
         digits[5 * n..5 * n + 5].copy_from_slice(&track_digits(*track));

@@ -5,32 +5,12 @@ ghost use Rattle.rules.specs.Screen.{same};
 ghost use Rattle.rules.specs.Words.{any};
 ghost use Rattle.rules_json.specs.Reader.{at as octet_at, string_size, string_units};
 ghost use Rattle.screen.specs.Letters.{is_letter, letter_size, stands_for};
-ghost use Rattle.screen.specs.Places.{first_of};
 
 use json_reader::octet;
 
-// The place of the first value of a name: the one there was, or where there was none this member's
-// value, if the string at a place says the name.
-pub(crate) fn first_of(
-    was: Option<usize>,
-    text: &[u8],
-    at: usize,
-    name: &[u8],
-    value: usize,
-) -> Option<usize>
-    requires string_value { string_size (drop at text.now) ≡ 0 → ⊥ }
-    requires name_value { any (λ b. not (is_letter b)) name.now ≡ false }
-    ensures { result ≡ first_of was (string_units (drop at text.now)) name.now value }
-{
-    if was.is_some() {
-        return was;
-    }
-    says(text, at, name).then_some(value)
-}
-
 // Whether the string at a place says a word of letters. It was read already, so that behind the word
 // there is another character or the quotation mark that ends it.
-fn says(text: &[u8], at: usize, word: &[u8]) -> bool
+pub(crate) fn says(text: &[u8], at: usize, word: &[u8]) -> bool
     requires string_value { string_size (drop at text.now) ≡ 0 → ⊥ }
     requires word_value { any (λ b. not (is_letter b)) word.now ≡ false }
     ensures { result ≡ same (string_units (drop at text.now)) word.now }

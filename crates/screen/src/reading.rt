@@ -8,12 +8,10 @@ use crate::members::{OurPlaces, outermost};
 use crate::numbers::number;
 use crate::tracks::tracks;
 use json_reader::blanks;
-use rules::{Message, Refusal};
+use rules::{Aspect, Message, Refusal};
 
 // "at most 4,096 bytes"
 const LONGEST: usize = 4096;
-
-const GREATEST_ASPECT: u16 = 5;
 
 // The message that a text holds, with whatever members and blanks were added to it.
 pub fn read(text: &[u8]) -> Result<Message, Refusal>
@@ -35,14 +33,12 @@ fn gathered(text: &[u8], places: OurPlaces) -> Option<Message>
     ensures { result ≡ message_given (ours text.now) }
 {
     let station = number(text, places.station?)?;
-    let aspect = number(text, places.aspect?)?;
+    let aspect = u8::try_from(number(text, places.aspect?)?).ok()?;
+    let aspect = Aspect::try_from(aspect).ok()?;
     let shown = tracks(text, places.tracks?)?;
-    if GREATEST_ASPECT < aspect {
-        return None;
-    }
     Some(Message {
         station,
-        aspect: aspect as u8,
+        aspect: aspect.into(),
         tracks: shown.count,
         digits: shown.digits,
     })

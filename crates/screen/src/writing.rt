@@ -35,11 +35,11 @@ pub fn write(message: Message, buffer: &mut [u8]) -> Result<usize, Refusal>
 fn fits(message: Message) -> bool
     ensures { result ≡ message_fits message }
 {
-    if GREATEST_ASPECT < message.aspect || message.tracks < 1 || 4 < message.tracks {
+    if GREATEST_ASPECT < message.aspect || !(1..=4).contains(&message.tracks) {
         return false;
     }
-    let shown = 5 * message.tracks as usize;
-    !some_above(1, &message.digits[..shown]) && !some_above(0, &message.digits[shown..])
+    let (shown, rest) = message.digits.split_at(5 * usize::from(message.tracks));
+    !some_above(1, shown) && !some_above(0, rest)
 }
 
 fn some_above(most: u8, digits: &[u8]) -> bool
@@ -59,7 +59,7 @@ fn write_text(message: Message, buffer: &mut [u8]) -> Option<usize>
     let station = Decimal::of(message.station.into());
     let aspect = [b'0' + message.aspect];
     let tracks = track_texts(message.digits);
-    let end = TRACK * message.tracks as usize;
+    let end = TRACK * usize::from(message.tracks);
     in_a_row(
         buffer,
         &[

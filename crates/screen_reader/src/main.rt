@@ -7,14 +7,11 @@ use std::io;
 use std::process::ExitCode;
 use verb::Status;
 
+// One byte more than a message has: more is refused, and nobody needs the rest.
+const ROOM: usize = 4097;
+
 fn main(rt: HostRuntime) -> ExitCode {
-    // One byte more than a message has: more is refused, and nobody needs the rest.
-    let mut room = [0u8; 4097];
-    let input = verb::read(&rt, &mut room);
-    if verb::input_failed(&rt) {
-        return ExitCode::SUCCESS;
-    }
-    verb::ended(&rt, told(&rt, input))
+    verb::over_input(&rt, &mut [0u8; ROOM], |input| told(&rt, input))
 }
 
 // Writes what a text says.

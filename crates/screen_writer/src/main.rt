@@ -11,18 +11,15 @@ use verb::Status;
 // The most bytes that a message has.
 const LONGEST: usize = 87;
 
+// One byte more than a register has: more is refused, and nobody needs the rest.
+const ROOM: usize = MOST_BYTES + 1;
+
 fn main(rt: HostRuntime) -> ExitCode {
     let mut word = [0u8; 6];
     let Some(number) = digits::number_in(verb::word(&rt, 2, &mut word)) else {
         return verb::ended(&rt, refused(&rt, Refusal::BadMember.into()));
     };
-    // One byte more than a register has: more is refused, and nobody needs the rest.
-    let mut room = [0u8; 65537];
-    let input = verb::read(&rt, &mut room);
-    if verb::input_failed(&rt) {
-        return ExitCode::SUCCESS;
-    }
-    verb::ended(&rt, told(&rt, number, input))
+    verb::over_input(&rt, &mut [0u8; ROOM], |input| told(&rt, number, input))
 }
 
 // Writes the message of a register's last row.

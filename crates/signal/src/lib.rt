@@ -38,8 +38,8 @@ pub fn head(outputs: u16, condition: u16) -> u16
     ensures { result ≡ head_outputs outputs condition }
 {
     let dark = (condition & (POWER_FAILED | COMMUNICATION_FAILED)) != 0;
-    let many = 1 < u16::count_ones(condition & SOUNDER_FAILED);
-    if dark | many {
+    let many = 1 < (condition & SOUNDER_FAILED).count_ones();
+    if dark || many {
         return 0;
     }
     let lit = if (condition & LAMP_FAILED) == 0 {

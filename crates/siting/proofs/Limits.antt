@@ -13,3 +13,5 @@ pub missed : (g : Bool) (n : ℕ) → g ≡ false
     → sited (outside_limits if not g then done) n ≡ record { answer = 8; distance = record { 0 = 0 } }
 unfolding ◌if◌then◌
 missed g n e = rw e refl
+
+pub ruleset limits = (met, missed)

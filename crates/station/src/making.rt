@@ -3,7 +3,7 @@ ghost use Rattle.std.specs.Prelude.{◌≡◌};
 ghost use Rattle.rules.specs.Answered.{answered, made_in};
 ghost use Rattle.rules.specs.Station.{free_track, fresh_station, least_settings, made, settings_answer};
 
-use rules::{Island, Refusal, Settings, Station, Track};
+use rules::{Refusal, Settings, Station, Track};
 
 // Whether the settings are within their limits; else 8.
 #[tactic(auto, using(chains::proofs::Chains::in_order), unfolding(rules::specs::Station::settings_answer))]
@@ -57,11 +57,7 @@ fn fresh_station(settings: Settings) -> Station
 pub(crate) fn free_track() -> Track
     ensures { result ≡ free_track }
 {
-    let free = Island {
-        occupied: false,
-        leaving: false,
-        failed: false,
-        age: 0,
-    };
-    Track { islands: [free; 5] }
+    Track {
+        islands: [islands::FREE; 5],
+    }
 }

@@ -1,7 +1,7 @@
 // What a station shows: its aspect, both heads, its zone digits and its tracks' presence.
 ghost use Rattle.std.specs.Prelude.{◌≡◌, ◌&&◌, ◌||◌, ◌<◌, not, cond, ltb};
 ghost use Rattle.rules.specs.Answered.{aspect_number};
-ghost use Rattle.rules.specs.Aspect.{aspect_of, presence_of, present as Aspect·present};
+ghost use Rattle.rules.specs.Aspect.{aspect_of, presence_of, present};
 ghost use Rattle.rules.specs.Heads.{heads_of};
 ghost use Rattle.rules.specs.Printer.{zones_of};
 ghost use Rattle.rules.specs.Station.{island_at, track_at, within_limits};
@@ -9,7 +9,6 @@ ghost use Rattle.rules.specs.Words.{any};
 ghost use Rattle.station.specs.Settled.{settled_in, settled_of};
 
 use crate::Settled;
-use crate::changing::track_at;
 use crate::surveying::{live, look_over};
 use rules::{Aspect, HeadOutputs, Station, Track, TrackPresence, ZoneDigits};
 use std::array;
@@ -90,13 +89,14 @@ pub fn presence(station: Station) -> TrackPresence
     if !islands::within_limits(station.settings) {
         return [true; 4];
     }
-    [0, 1, 2, 3].map(|number| is_present(station, number))
+    array::from_fn(|at| is_present(&station, at))
 }
 
-#[tactic(auto, unfolding(islands::specs::Signs::signs_of))]
-fn is_present(station: Station, number: u8) -> bool
-    ensures { result ≡ (ltb number station.settings.tracks && Aspect·present station.settings (track_at station number)) }
+#[tactic(auto, unfolding(islands::specs::Signs::signs_of, rules::specs::Station::track_at))]
+fn is_present(station: &Station, at: usize) -> bool
+    requires { at < 4 }
+    ensures { result ≡ (ltb at station.now.settings.tracks && present station.now.settings (track_at station.now at)) }
 {
-    let signs = islands::signs_of(station.settings, track_at(station, number));
-    number < station.settings.tracks && signs.present
+    let signs = islands::signs_of(station.settings, station.tracks[at]);
+    at < usize::from(station.settings.tracks) && signs.present
 }

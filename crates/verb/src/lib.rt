@@ -25,6 +25,12 @@ pub enum Status {
     NotWritten = 3,
 }
 
+impl From<Status> for u8 {
+    fn from(status: Status) -> Self {
+        status as u8
+    }
+}
+
 impl Status {
     // Where something was refused, or else nothing was.
     pub fn refused_if(refused: bool) -> Self {
@@ -49,13 +55,17 @@ pub fn words(rt: &impl Env) -> usize {
 
 // A word, in the room that is lent for it. It is empty also where there is no such word, and where the word
 // is longer than the room. Word 0 is the program's name.
-pub fn word<'a>(rt: &impl Env, place: usize, room: &'a mut [u8]) -> &'a [u8] {
+pub fn word<'a>(rt: &impl Env, place: usize, room: &'a mut [u8]) -> &'a [u8]
+    ensures in_bounds { length result.now ≤ length room.old }
+{
     let length = rt.arg(place, room).unwrap_or(0);
     &room[..length]
 }
 
 // What standard input gives until the room that is lent for it is full, the input ends or it cannot be read on.
-pub fn read<'a>(rt: &impl Input, room: &'a mut [u8]) -> &'a [u8] {
+pub fn read<'a>(rt: &impl Input, room: &'a mut [u8]) -> &'a [u8]
+    ensures in_bounds { length result.now ≤ length room.old }
+{
     let mut reader = rt.reader();
     let mut done = 0;
     while done < room.len() {
@@ -76,7 +86,7 @@ pub fn input_failed(rt: &(impl Input + Env + Eprint + Files)) -> bool {
         Ok(_) => false,
         Err(error) => {
             fail(rt, "the input cannot be read", error);
-            say(rt, Status::NotRead);
+            say(rt, Status::NotRead.into());
             true
         }
     }
@@ -92,22 +102,33 @@ pub fn tell(rt: &impl Eprint, text: impl Display + Drop) {
     let _ = rt.eprint(text);
 }
 
-// Writes a number to standard error.
-pub fn tell_number(rt: &impl Eprint, number: usize) {
-    tell(rt, number);
+// A verb over what standard input gives, in the room that is lent for it: what is told of it, where it could be
+// read to its end, and the end of the verb.
+pub fn over_input<R: Input + Env + Eprint + Files, F: FnOnce(&[u8]) -> io::Result<Status>>(
+    rt: &R,
+    room: &mut [u8],
+    told: F,
+) -> ExitCode
+    requires { F.IsAlwaysCallable told }
+{
+    let input = read(rt, room);
+    if input_failed(rt) {
+        return ExitCode::SUCCESS;
+    }
+    ended(rt, told(input))
 }
 
-// The end of a verb, with its status where its output was all written, and the program's own status,
+// The end of a verb, with its status by number where its output was all written, and the program's own status,
 // which is 0. A reader that had enough is no news: the program ends as if it were stopped by that.
-pub fn ended(rt: &(impl Env + Eprint + Files), went: io::Result<Status>) -> ExitCode {
+pub fn ended(rt: &(impl Env + Eprint + Files), went: io::Result<impl Into<u8> + Drop>) -> ExitCode {
     match went {
-        Ok(status) => say(rt, status),
+        Ok(status) => say(rt, status.into()),
         Err(error) => {
             if error.kind() == ErrorKind::BrokenPipe {
                 return ExitCode::from(PIPE_CLOSED);
             }
             fail(rt, "the output cannot be written", error);
-            say(rt, Status::NotWritten);
+            say(rt, Status::NotWritten.into());
         }
     }
     ExitCode::SUCCESS
@@ -133,7 +154,7 @@ fn words_alone(shown: &[u8]) -> &str {
     }
 }
 
-fn say(rt: &(impl Env + Files), status: Status) {
+fn say(rt: &(impl Env + Files), status: u8) {
     if word(rt, 1, &mut [0u8; 1]) == b"3".as_slice() {
         // Where it cannot be said, the program looks like one that was stopped.
         let _ = digit(rt, status);
@@ -142,11 +163,11 @@ fn say(rt: &(impl Env + Files), status: Status) {
 
 // Writes the digit at the end of what is there, so that a file keeps what it has. A descriptor that can
 // only be read is left alone, though by its name its file could be written.
-fn digit(rt: &impl Files, status: Status) -> io::Result<()> {
+fn digit(rt: &impl Files, status: u8) -> io::Result<()> {
     let mode = fs::symlink_metadata(rt, STATUS)?.permissions().mode();
     if mode & WRITABLE == 0 {
         return Ok(());
     }
     let mut file = OpenOptions::new().append(true).open(rt, STATUS)?;
-    file.write_all(&[b'0' + status as u8])
+    file.write_all(&[b'0' + status.min(Status::NotWritten as u8)])
 }

@@ -7,12 +7,19 @@ use native.Mathlib.Omega.{arith}
 use lib.Bits.{bit_and, bit_or}
 use lib.Dec.{eqb}
 use borrow.Author.Tests.{eq-eqb, ne_eqb}
+use Rattle.std.proofs.lemmas.Bool.Decides.{nat_tests}
 use Rattle.signal.proofs.Shown.{dark_shows, lamps, lit_shows}
 use Rattle.signal.proofs.head.Goals as goal
 use Rattle.signal.proofs.head.Goals.{else-condition-eq0, then-condition-eq0}
+use Rattle.signal.proofs.head.Goals.{then-dark-via-else-dark+then-many, then-dark-via-then-dark}
 
-pub returns-then-dark-many : goal.returns-then-dark-many
-returns-then-dark-many c = sym (dark_shows c.args.outputs c.args.condition _ c.if-dark-many.true (omega arith))
+pub returns-then-dark : goal.returns-then-dark
+returns-then-dark c = sym (dark_shows c.args.outputs c.args.condition 1
+    (elim c.then-dark.branch [
+      | then-dark-via-then-dark w ↦ grind (arith, nat_tests)
+      | then-dark-via-else-dark+then-many w ↦ grind (arith, nat_tests)
+    ])
+    (omega arith))
 
 pub returns : goal.returns
 returns c = let o = c.args.outputs in
@@ -29,4 +36,4 @@ returns c = let o = c.args.outputs in
     let s3 : c.silenced-3.result ≡ cond (not (eqb (bit_and d 64) 0)) 128 0 = c.silenced-3.ensures in
     let s4 : c.silenced-4.result ≡ cond (not (eqb (bit_and d 128) 0)) 256 0 = c.silenced-4.ensures in
     (λ i. bit_or (lit i) (bit_and (bit_and o 480) (65535 - bit_or (bit_or (bit_or (s1 i) (s2 i)) (s3 i)) (s4 i))))
-    ∙ sym (lit_shows o d _ c.if-dark-many.false (omega arith))
+    ∙ sym (lit_shows o d 1 (grind (arith, nat_tests)) (omega arith))

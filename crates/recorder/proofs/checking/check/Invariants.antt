@@ -1,11 +1,13 @@
 use Rattle.std.proofs.Common.{◌≡◌, ◌+◌, ◌≤◌, length, suc}
+use Rattle.std.specs.Iterator.Adapters.{enumerate_count, enumerate_source}
 use Rattle.rules_plan.specs.Faults.{checked, checked_from}
 use Rattle.rules_plan.specs.Words.{lines}
 use Rattle.recorder.proofs.checking.check.Given as goal
 
-abbrev pub invariant-loop-found : goal.invariant-loop-found
-invariant-loop-found l =
+abbrev pub invariant-loop-line : goal.invariant-loop-line
+invariant-loop-line l =
+    let left = lines (enumerate_source l.line-iterator).text.now in
     record {
-      few : l.line + length (lines l.found-iterator.text.now) ≤ length l.text;
-      so_far : checked_from (suc l.line) l.said (lines l.found-iterator.text.now) ≡ checked l.text;
+      few : enumerate_count l.line-iterator + length left ≤ length l.text;
+      so_far : checked_from (suc (enumerate_count l.line-iterator)) l.said left ≡ checked l.text;
     }

@@ -12,10 +12,11 @@ shared_ref_as_front-live c = omega (arith, (tracks_within c.args.station.setting
 
 pub loop-n-preserved : goal.loop-n-preserved
 loop-n-preserved c = let station = c.args.station in
-    let live = take station.settings.tracks station.tracks in
+    let live = take c.from.result station.tracks in
     let few : length live ≤ 4 = omega (
       arith,
-      length-take station.settings.tracks station.tracks,
+      length-take c.from.result station.tracks,
+      c.from.ensures,
       (tracks_within station.settings c.requires).1,
     ) in
     copied (5 * c.loop-n.n) _ c.loop-n.digits _ _ (omega arith)

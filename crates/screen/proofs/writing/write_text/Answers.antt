@@ -31,12 +31,14 @@ slice_bounds-in_a_row-end-5 c = let message = c.args.message in
       arith,
       whole,
       (fits_so message c.requires).most,
-      length-take (12 * message.tracks) c.track_texts-tracks.result,
+      c.from-end.ensures,
+      length-take (12 * c.from-end.result) c.track_texts-tracks.result,
     )
 
 pub returns : goal.returns
 returns c = written_as c.args.buffer.now
     (spelt c.args.message c.requires (twenty (goal.at.returns c).Start)
     (c.as_slice.ensures ∙ c.of-station.ensures ∙ ap decimal c.into.ensures)
-    c.track_texts-tracks.ensures)
+    c.track_texts-tracks.ensures
+    c.from-end.ensures)
     c.in_a_row.ensures
