@@ -1,4 +1,5 @@
 pub mod Ages
+pub mod FreeTracks
 pub mod Turned
 pub mod Timetables
 pub mod ByTimetable

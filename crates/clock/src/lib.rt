@@ -7,4 +7,4 @@ mod ticking;
 mod timing;
 mod turning;
 
-pub use ticking::ticks;
+pub use ticking::{pass, ticks};

@@ -44,8 +44,8 @@ impl Timetable {
     }
 }
 
-// The timetable of these tracks.
-#[tactic(auto, using(crate::proofs::Timetables::timed_next))]
+// The timetable of these tracks. One with no island occupied is passed over.
+#[tactic(auto, using(crate::proofs::Timetables::timed_next, crate::proofs::Timetables::timed_skip))]
 pub(crate) fn timetable_of(settings: Settings, tracks: &[Track]) -> Timetable
     ensures { Timed settings tracks.now result }
 {
@@ -56,7 +56,9 @@ pub(crate) fn timetable_of(settings: Settings, tracks: &[Track]) -> Timetable
         late: NEVER,
     };
     for track in tracks {
-        table = table.with(turns_of(settings, *track));
+        if islands::some_occupied(*track) {
+            table = table.with(turns_of(settings, *track));
+        }
     }
     table
 }

@@ -2,8 +2,7 @@
 use Rattle.std.proofs.Common.{◌≡◌, ℕ, List, Bool, true, false, cond, length, refl}
 use Rattle.std.specs.Prelude.{Some, None}
 use Rattle.std.specs.Option.{unwrap_or}
-use Rattle.rules.specs.Printer.{fits, length_written}
-use Rattle.text.specs.Texts.{length_where_it_fits}
+use Rattle.rules.specs.Printer.{fits, length_where_it_fits, length_written}
 
 or_0 : (g : Bool) (n : ℕ) → unwrap_or (cond g (Some n) None) 0 ≡ cond g n 0
 or_0 true n = refl

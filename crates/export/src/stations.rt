@@ -1,6 +1,5 @@
 // A station, the reports that it takes, and what it shows.
 ghost use Rattle.std.specs.Prelude.{◌≡◌};
-ghost use Rattle.rules.specs.Answered.{taken_in};
 ghost use Rattle.rules.specs.Answers.{answer_of, taken};
 ghost use Rattle.rules.specs.Aspect.{aspect_of, presence_of};
 ghost use Rattle.rules.specs.Heads.{head_outputs, heads_of};
@@ -9,7 +8,7 @@ ghost use Rattle.rules.specs.Printer.{zones_of};
 ghost use Rattle.rules.specs.Station.{made};
 
 use rules::{
-    DONE, HeadOutputs, Made, Refusal, Report, Settings, Station, Taken, TrackPresence, ZoneDigits,
+    DONE, HeadOutputs, Made, Report, Settings, Station, Taken, TrackPresence, ZoneDigits,
     answer_number,
 };
 
@@ -53,26 +52,12 @@ pub extern "C" fn degvuurel_make(settings: Settings) -> Made
 
 // Takes a report, or refuses it and returns the old station.
 #[unsafe(no_mangle)]
-pub extern "C" fn degvuurel_take(station: Station, report: Report) -> Taken
+#[tactic(auto, unfolding(rules::specs::Answers::taken))]
+pub extern "C" fn degvuurel_take(mut station: Station, report: Report) -> Taken
     ensures { result ≡ taken station report }
 {
-    taken(station, reports::take(station, report))
-}
-
-// What became of a report: a refused one returns the old station.
-pub(crate) fn taken(old: Station, outcome: Result<Station, Refusal>) -> Taken
-    ensures { result ≡ taken_in old outcome }
-{
-    match outcome {
-        Ok(station) => Taken {
-            answer: DONE,
-            station,
-        },
-        Err(refusal) => Taken {
-            answer: refusal.into(),
-            station: old,
-        },
-    }
+    let answer = answer_number(reports::follow(&mut station, report));
+    Taken { answer, station }
 }
 
 // The number that a report is answered with, 0 to 8.
@@ -80,7 +65,7 @@ pub(crate) fn taken(old: Station, outcome: Result<Station, Refusal>) -> Taken
 pub extern "C" fn degvuurel_answer(station: Station, report: Report) -> u8
     ensures { result ≡ answer_of station report }
 {
-    answer_number(reports::answer(station, report))
+    answer_number(reports::answer_to(&station, report))
 }
 
 // The aspect, 0 to 5. A station whose settings are outside their limits shows 5.

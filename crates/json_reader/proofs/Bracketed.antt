@@ -26,7 +26,7 @@ use Rattle.json_reader.proofs.Ending.{ending, ending_fails, ending_last, ending_
 use Rattle.json_reader.proofs.Places.{measured_behind, octet_behind}
 use Rattle.json_reader.proofs.Read.{none_read, past_some, some_read}
 use Rattle.json_reader.proofs.Turning.{Grows, Turning}
-use Rattle.json_reader.specs.Places.{past}
+use Rattle.rules_json.specs.Reader.{past}
 
 either_fails : (t : Bool) → cond t fails fails ≡ fails
 either_fails true = refl

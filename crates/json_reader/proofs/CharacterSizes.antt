@@ -1,22 +1,21 @@
 -- Past a character, by the octets that stand at its place.
 -- Assumes nothing.
-use Prim.Native.Nat.{ℕ, ◌+◌, ◌≤◌, ◌<◌}
+use Prim.Native.Nat.{ℕ, ◌+◌, ◌-◌, ◌≤◌, ◌<◌}
 use mathlib.Core.Bool.{Bool, cond, false, not, true, ◌&&◌, ◌||◌}
 use mathlib.Core.List.{List}
 use mathlib.Core.Path.{◌≡◌, ap, refl, ◌∙◌}
 use native.Mathlib.Omega.{arith}
 use borrow.Author.Tests.{eq-eqb, le-leb, le-ltb, lt-leb, lt-ltb, ne_eqb}
 use lib.Dec.{eqb, ltb}
-use lib.ListN.{drop}
+use lib.ListN.{drop, get_or-eq_default, length}
 use Rattle.std.specs.Bool.{then_some}
 use Rattle.std.specs.Prelude.{None, Some}
 use Rattle.std.specs.Char.{is_ascii_hexdigit}
 use Rattle.json_reader.proofs.Places.{first_behind, octet_behind}
 use Rattle.json_reader.proofs.Read.{past_if, past_none, past_some}
-use Rattle.json_reader.specs.Places.{past}
 use Rattle.rules_json.specs.Abnf.{within}
 use Rattle.rules_json.specs.Grammar.{escaped, hexdig}
-use Rattle.rules_json.specs.Reader.{at, char_size, escape_size, second, tail, utf8_size}
+use Rattle.rules_json.specs.Reader.{at, char_size, escape_size, past, second, tail, utf8_size}
 
 -- the digits behind \u
 abbrev pub four : List ℕ → Bool
@@ -24,6 +23,10 @@ four s = hexdig (at s 2) && hexdig (at s 3) && hexdig (at s 4) && hexdig (at s 5
 
 hex_is : (b : ℕ) → hexdig b ≡ is_ascii_hexdigit b
 hex_is b = grind arith
+
+none_if : (t : Bool) (n : ℕ) → then_some (t && false) n ≡ None
+none_if true n = refl
+none_if false n = refl
 
 -- ---- RFC 3629
 
@@ -109,6 +112,14 @@ module _ (p : ℕ) (text : List ℕ) where
       (past_if p 5 (hexdig (octet 2) && hexdig (octet 3) && hexdig (octet 4) && hexdig (octet 5))
       ∙ (λ i. then_some (hex_is (octet 2) i && hex_is (octet 3) i && hex_is (octet 4) i && hex_is (octet 5) i) (p + 6)))
 
+  -- the text ends among the digits
+  pub cut_escape : octet 1 ≡ 0x75 → length text - p < 6 → past p (escape_size (drop p text)) ≡ None
+  cut_escape h l =
+      long_escape h
+      ∙ ap (λ b. then_some (is_ascii_hexdigit (octet 2) && is_ascii_hexdigit (octet 3) && is_ascii_hexdigit (octet 4)
+      && is_ascii_hexdigit b) (p + 6)) (get_or-eq_default text 0 (omega arith))
+      ∙ none_if _ (p + 6)
+
   pub short_escape : (octet 1 ≡ 0x75 → ⊥)
       → past p (escape_size (drop p text)) ≡ then_some (not (eqb (escaped (octet 1)) 0)) (p + 2)
   short_escape h =
@@ -147,6 +158,6 @@ module _ (p : ℕ) (text : List ℕ) where
 
 pub ruleset encodings = (one_octet, two_octets, three_octets, four_octets, no_first, great_first)
 
-pub ruleset escapes = (long_escape, short_escape)
+pub ruleset escapes = (long_escape, cut_escape, short_escape)
 
 pub ruleset characters = (low_character, quoted_character, escaped_character, encoded_character)

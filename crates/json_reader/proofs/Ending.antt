@@ -6,11 +6,10 @@ use Prim.Native.Nat.{ℕ, ◌≤◌, ◌+◌}
 use native.Mathlib.Omega.{arith}
 use lib.ListN.{drop, drop_of_length-le, length, length-drop}
 use Rattle.std.specs.Prelude.{None, Option, Some}
-use Rattle.rules_json.specs.Reader.{Step, fails, last, goes_on, further, runs, size_after}
+use Rattle.rules_json.specs.Reader.{Step, fails, further, goes_on, last, past, runs, size_after}
 use Rattle.json_reader.proofs.Places.{text_behind}
 use Rattle.json_reader.proofs.Read.{past_further, past_none, past_some}
 use Rattle.json_reader.proofs.Turning.{Turning, through, through_enough, unrolled}
-use Rattle.json_reader.specs.Places.{past}
 
 module _ (step : List ℕ → Step) (text : List ℕ) where
   -- where the steps from a place on end

@@ -1,41 +1,42 @@
 -- Runs of blanks and of digits, octet by octet.
 -- Assumes nothing.
-use Prim.Native.Nat.{ℕ, max, suc, ◌+◌, ◌≤◌, ◌<◌}
+use Prim.Native.Nat.{ℕ, suc, ◌+◌, ◌≤◌, ◌<◌}
 use mathlib.Core.Bool.{Bool, cond, false, not, true}
 use mathlib.Core.List.{List}
 use mathlib.Core.Path.{◌≡◌, ap, refl, sym, ◌∙◌}
 use native.Mathlib.Numerals.{add-one}
 use native.Mathlib.Omega.{arith}
-use lib.ListN.{drop, drop_of_length-le, get_or, get_or-eq_default, length}
+use lib.ListN.{drop, drop_of_length-le, get_or, length}
 use lib.Seq.{drop-cons}
 use borrow.Author.Tests.{eqb-false, eqb-true, ltb-false, ltb-true}
 use lib.Dec.{eqb, ltb}
 use Rattle.std.specs.Bool.{then_some}
 use Rattle.json_reader.proofs.Cases.{by_test}
+use Rattle.json_reader.proofs.Places.{taken_in_text}
 use Rattle.json_reader.proofs.Read.{past_none, past_some}
-use Rattle.json_reader.specs.Places.{next_from, past}
+use Rattle.json_reader.specs.Places.{next_from}
 use Rattle.rules_json.specs.Grammar.{blank, digit}
-use Rattle.rules_json.specs.Reader.{at, blanks, digits, leading}
+use Rattle.rules_json.specs.Reader.{at, blanks, digits, leading, past}
 
 module _ (past : ℕ) (text : List ℕ) where
   pub blanks_over : length text ≤ past → blanks (drop past text) ≡ 0
   unfolding blanks
   blanks_over h = ap (leading blank) (drop_of_length-le text h)
 
-  module _ (h : past < length text) where
-    by_first : (t : Bool) → blank (get_or text past 0) ≡ t
-        → blanks (drop past text) ≡ cond t (suc (blanks (drop (suc past) text))) 0
-    unfolding blanks
-    by_first t e =
-        ap (leading blank) (drop-cons text past 0 h)
-        ∙ ap (λ t. cond t (suc (leading blank (drop (suc past) text))) 0) e
+  by_first : past < length text → (t : Bool) → blank (get_or text past 0) ≡ t
+      → blanks (drop past text) ≡ cond t (suc (blanks (drop (suc past) text))) 0
+  unfolding blanks
+  by_first h t e =
+      ap (leading blank) (drop-cons text past 0 h)
+      ∙ ap (λ t. cond t (suc (leading blank (drop (suc past) text))) 0) e
 
-    pub blanks_other : blank (get_or text past 0) ≡ false → blanks (drop past text) ≡ 0
-    blanks_other e = by_first false e
+  pub blanks_other : blank (at text past) ≡ false → blanks (drop past text) ≡ 0
+  blanks_other e =
+      by_test (ltb past (length text)) (λ t. by_first (ltb-true _ _ t) false e)
+      (λ t. blanks_over (ltb-false _ _ t))
 
-    pub blanks_on : blank (get_or text past 0) ≡ true
-        → blanks (drop past text) ≡ suc (blanks (drop (past + 1) text))
-    blanks_on e = rw add-one (by_first true e)
+  pub blanks_on : blank (at text past) ≡ true → blanks (drop past text) ≡ suc (blanks (drop (past + 1) text))
+  blanks_on e = rw add-one (by_first (taken_in_text text past blank refl e) true e)
 
 -- ---- what stands behind blanks, where they end as far as from each of them
 
@@ -44,15 +45,9 @@ module _ (past from : ℕ) (text : List ℕ) (same : past + blanks (drop past te
       → record { place = m; octet = o } ≡ next_from text from
   ends m e o q = λ i. record { place = e i; octet = (q ∙ ap (at text) e) i }
 
-  pub other_next : past < length text → blank (at text past) ≡ false
-      → record { place = past; octet = at text past } ≡ next_from text from
-  other_next h b = ends past (omega (arith, same, blanks_other past text h b)) (at text past) refl
-
-  pub no_next : length text ≤ past → (from ≤ length text → past ≤ length text) → (m : ℕ) → m ≡ max from (length text)
-      → record { place = m; octet = 0 } ≡ next_from text from
-  no_next h l m e =
-      ends m (grind (arith, same, blanks_over past text h, blanks_over from text)) 0 (sym (get_or-eq_default text
-      0 (omega arith)))
+  pub other_next : blank (at text past) ≡ false → (o : ℕ) → o ≡ at text past
+      → record { place = past; octet = o } ≡ next_from text from
+  other_next b = ends past (omega (arith, same, blanks_other past text b))
 
 -- ---- digits alike
 

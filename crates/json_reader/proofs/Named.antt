@@ -7,12 +7,12 @@ use native.Mathlib.Omega.{arith}
 use borrow.Author.Tests.{eq-eqb, ne_eqb}
 use lib.ListN.{drop}
 use Rattle.std.specs.Prelude.{None, Some}
-use Rattle.rules_json.specs.Reader.{at, blanks, name_size, separator_size, string_size}
+use Rattle.rules_json.specs.Reader.{at, blanks, name_size, past, separator_size, string_size}
 use Rattle.json_reader.proofs.Further.{cond_none, cond_some}
 use Rattle.json_reader.proofs.Places.{measured_behind, octet_behind, text_behind}
 use Rattle.json_reader.proofs.Quoted.{no_string}
 use Rattle.json_reader.proofs.Read.{none_read, past_further, past_none, past_some, some_read}
-use Rattle.json_reader.specs.Places.{next_from, past}
+use Rattle.json_reader.specs.Places.{next_from}
 
 module _ (p : ℕ) (text : List ℕ) where
   found : at (drop p text) (blanks (drop p text)) ≡ (next_from text p).octet

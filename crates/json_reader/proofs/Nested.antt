@@ -5,13 +5,12 @@ use mathlib.Core.List.{List, [], ◌∷◌}
 use Prim.Native.Nat.{ℕ, zero, suc, ◌+◌, ◌-◌, ◌≤◌}
 use native.Mathlib.Omega.{arith}
 use lib.ListN.{drop}
-use Rattle.rules_json.specs.Reader.{at, bracketed_size, digits, int_size}
+use Rattle.rules_json.specs.Reader.{at, bracketed_size, digits, int_size, past}
 use Rattle.rules_json.specs.Reader.{member_size, name_size, number_size, scalar_size, value_size}
 use Rattle.json_reader.proofs.Behind.{here, not_here}
 use Rattle.json_reader.proofs.Further.{cond_none, cond_some}
 use Rattle.json_reader.proofs.Places.{first_behind, text_behind}
 use Rattle.json_reader.proofs.Read.{none_read, past_further, past_none, some_read}
-use Rattle.json_reader.specs.Places.{past}
 use Rattle.std.specs.Prelude.{None, Some}
 
 -- ---- values

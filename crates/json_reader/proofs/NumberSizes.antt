@@ -12,9 +12,8 @@ use Rattle.std.specs.Prelude.{None, Some, unwrap_or}
 use Rattle.json_reader.proofs.Further.{cond_none, cond_some}
 use Rattle.json_reader.proofs.Places.{first_behind, text_behind}
 use Rattle.json_reader.proofs.Read.{none_read, past_further, past_none, past_some, read_or_not, some_read}
-use Rattle.json_reader.specs.Places.{past}
 use Rattle.rules_json.specs.Grammar.{e}
-use Rattle.rules_json.specs.Reader.{at, digits, exp_size, frac_size, further, int_size, minus_size, number_size}
+use Rattle.rules_json.specs.Reader.{at, digits, exp_size, frac_size, further, int_size, minus_size, number_size, past}
 use Rattle.rules_json.specs.Reader.{rest_size, sign_size, unsigned_size}
 
 module _ (p : ℕ) (text : List ℕ) where

@@ -6,13 +6,13 @@ use mathlib.Core.List.{List}
 use Prim.Native.Nat.{ℕ, zero, suc, ◌≤◌, ◌<◌, ◌+◌}
 use native.Mathlib.Omega.{arith}
 use borrow.Author.Tests.{leb-true, le-leb, le-ltb, lt-ltb, ne_eqb}
-use lib.Dec.{T, eqb, eqb-suc-zero, leb, ltb}
+use lib.Dec.{T, eqb, eqb-suc-zero, leb, leb→le, ltb}
 use lib.ListN.{drop, length}
-use Rattle.rules_json.specs.Reader.{at, char_size, fails, goes_on, last, string_size, string_step, utf8_size}
+use Rattle.rules_json.specs.Reader.{at, char_size, escape_size, fails, goes_on, last, past, string_size}
+use Rattle.rules_json.specs.Reader.{string_step, utf8_size}
 use Rattle.json_reader.proofs.Behind.{here, not_here}
 use Rattle.json_reader.proofs.Ending.{ending, ending_fails, ending_last, ending_on, ending_over, whole_ending}
 use Rattle.json_reader.proofs.Read.{none_read, past_none, some_read}
-use Rattle.json_reader.specs.Places.{past}
 use Rattle.std.specs.Prelude.{None, Option, Some}
 use Rattle.json_reader.proofs.Places.{first_behind}
 use Rattle.json_reader.proofs.Turning.{Grows, Turning}
@@ -50,6 +50,15 @@ plain_step s h =
     let b = at s 0 in
     plain_chosen (leb 0x20 b) (ltb b 0x80) (eqb b 0x22) (eqb b 0x5C) (ltb b 0x20) _ _ h
     (λ e. le-ltb b 0x20 (leb-true 0x20 b e))
+
+-- a character has six octets at most
+small_either : (t : Bool) (x y : ℕ) → x ≤ 6 → y ≤ 6 → cond t x y ≤ 6
+small_either true x y h l = h
+small_either false x y h l = l
+
+pub char_small : (s : List ℕ) → char_size s ≤ 6
+unfolding char_size escape_size utf8_size
+char_small s = search (small_either, leb→le) depth 9
 
 pub no_string : (text : List ℕ) (place : ℕ) → (at text place ≡ 0x22 → ⊥)
     → past place (string_size (drop place text)) ≡ None

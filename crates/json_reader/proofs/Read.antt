@@ -8,8 +8,7 @@ use native.Mathlib.Omega.{arith}
 use Rattle.std.specs.Prelude.{None, Some, unwrap_or}
 use Rattle.std.specs.Bool.{then_some}
 use Rattle.json_reader.proofs.Further.{cond_some}
-use Rattle.json_reader.specs.Places.{past}
-use Rattle.rules_json.specs.Reader.{further}
+use Rattle.rules_json.specs.Reader.{further, past}
 
 module _ (p : ℕ) where
   pub past_none : {n : ℕ} → n ≡ 0 → past p n ≡ None

@@ -8,9 +8,8 @@ use borrow.Author.Tests.{ne_eqb}
 use lib.Dec.{eqb}
 use lib.ListN.{drop}
 use Rattle.rules_json.specs.Abnf.{octets}
-use Rattle.rules_json.specs.Reader.{at, number_size, scalar_size, string_size, word_size}
+use Rattle.rules_json.specs.Reader.{at, number_size, past, scalar_size, string_size, word_size}
 use Rattle.json_reader.proofs.Places.{first_behind}
-use Rattle.json_reader.specs.Places.{past}
 
 module _ (place : ℕ) (text : List ℕ) where
   abbrev scalar_by : ℕ → ℕ

@@ -15,8 +15,7 @@ use Rattle.std.specs.List.{list_all, starts_with}
 use Rattle.json_reader.proofs.Behind.{part_behind}
 use Rattle.json_reader.proofs.Cases.{both, by_test}
 use Rattle.json_reader.proofs.Read.{past_if}
-use Rattle.json_reader.specs.Places.{past}
-use Rattle.rules_json.specs.Reader.{at, spells, word_size}
+use Rattle.rules_json.specs.Reader.{at, past, spells, word_size}
 
 turned : (a b : ℕ) → eqb a b ≡ eqb b a
 turned a b =

@@ -12,10 +12,10 @@ use Rattle.std.specs.Prelude.{None, Option, Some}
 use Rattle.json_reader.proofs.Bracketed.{Item, Walking, begins, breaks, closes, empty, goes_on_lem}
 use Rattle.json_reader.proofs.Cases.{by_test}
 use Rattle.json_reader.proofs.Read.{some_read}
-use Rattle.json_reader.specs.Places.{behind, next_from, past}
+use Rattle.json_reader.specs.Places.{behind, next_from}
 use Rattle.json_reader.specs.declared.octets.Next.{Next}
 use Rattle.json_reader.specs.declared.values.After.{After}
-use Rattle.rules_json.specs.Reader.{at, blanks, bracketed_size}
+use Rattle.rules_json.specs.Reader.{at, blanks, bracketed_size, past}
 
 -- the octet that stands next
 module _ (text : List ℕ) (from : ℕ) (n : Next) (e : n ≡ next_from text from) where

@@ -1,2 +1,2 @@
--- Past what was read, and what stands there
+-- What stands past what was read
 pub mod Places

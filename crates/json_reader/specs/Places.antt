@@ -1,13 +1,8 @@
--- Places of a text: past what was read, and what stands there.
-use Rattle.std.specs.Prelude.{ℕ, zero, suc, ◌+◌, cond, List, Option, None, Some, drop, eqb}
+-- Places of a text: what stands past what was read. (Not for belief.)
+use Rattle.std.specs.Prelude.{ℕ, ◌+◌, cond, List, Option, None, Some, drop, eqb}
 use Rattle.json_reader.specs.declared.octets.Next.{Next}
 use Rattle.json_reader.specs.declared.values.After.{After}
 use Rattle.rules_json.specs.Reader.{at, blanks}
-
--- the place past so many octets that were read at a place: none where there are none
-unfoldable pub past : ℕ → ℕ → Option ℕ
-past at zero = None
-past at (suc n) = Some (at + suc n)
 
 -- the next octet behind the blanks at a place, and its place
 abbrev pub next_from : List ℕ → ℕ → Next

@@ -1,6 +1,6 @@
 // Section 7: a character of a string, in UTF-8 or behind an escape.
 ghost use Rattle.std.specs.Prelude.{not, ◌≡◌, ◌<◌, drop, eqb, length};
-ghost use Rattle.json_reader.specs.Places.{past};
+ghost use Rattle.rules_json.specs.Reader.{past};
 ghost use Rattle.rules_json.specs.Grammar.{escaped, hexdig};
 ghost use Rattle.rules_json.specs.Reader.{at as octet_at, char_size, escape_size, second as may_be_second, tail as is_tail, utf8_size};
 
@@ -27,10 +27,14 @@ fn escape(text: &[u8], at: usize) -> Option<usize>
 {
     match octet(text, at + 1) {
         b'u' => {
-            let four = octet(text, at + 2).is_ascii_hexdigit()
-                & octet(text, at + 3).is_ascii_hexdigit()
-                & octet(text, at + 4).is_ascii_hexdigit()
-                & octet(text, at + 5).is_ascii_hexdigit();
+            // So that the four octets below need no test of their own.
+            if text.len() - at < 6 {
+                return None;
+            }
+            let four = text[at + 2].is_ascii_hexdigit()
+                & text[at + 3].is_ascii_hexdigit()
+                & text[at + 4].is_ascii_hexdigit()
+                & text[at + 5].is_ascii_hexdigit();
             four.then_some(at + 6)
         }
         letter => is_escaped(letter).then_some(at + 2),

@@ -1,7 +1,6 @@
 // Section 6: number = [ minus ] int [ frac ] [ exp ].
 ghost use Rattle.std.specs.Prelude.{◌≡◌, ◌+◌, drop};
-ghost use Rattle.json_reader.specs.Places.{past};
-ghost use Rattle.rules_json.specs.Reader.{exp_size, frac_size, int_size, minus_size, number_size, sign_size};
+ghost use Rattle.rules_json.specs.Reader.{exp_size, frac_size, int_size, minus_size, number_size, past, sign_size};
 
 use crate::octets::{digits, octet};
 

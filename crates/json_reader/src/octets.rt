@@ -1,7 +1,8 @@
 // Octets one by one, and runs of them.
 ghost use Rattle.std.specs.Prelude.{◌≡◌, ◌+◌, drop};
-ghost use Rattle.json_reader.specs.Places.{next_from, past};
-ghost use Rattle.rules_json.specs.Reader.{at, blanks as blanks_at_head, digits as digits_at_head};
+ghost use Rattle.json_reader.specs.Places.{next_from};
+ghost use Rattle.rules_json.specs.Grammar.{blank};
+ghost use Rattle.rules_json.specs.Reader.{at, blanks as blanks_at_head, digits as digits_at_head, past};
 
 // An octet and its place.
 #[derive(Clone, Copy)]
@@ -28,16 +29,21 @@ pub fn blanks(text: &[u8], place: usize) -> usize
 pub(crate) fn past_blanks(text: &[u8], place: usize) -> Next
     ensures { result ≡ next_from text.now place }
 {
-    for past in place..text.len() {
-        let octet = text[past];
-        if !matches!(octet, b' ' | b'\t' | b'\n' | b'\r') {
-            return Next { place: past, octet };
-        }
+    let mut past = place;
+    while is_blank(octet(text, past)) {
+        past += 1;
     }
     Next {
-        place: place.max(text.len()),
-        octet: 0,
+        place: past,
+        octet: octet(text, past),
     }
+}
+
+// Space, horizontal tab, line feed, carriage return. (By |: the four are then one test of a bit.)
+fn is_blank(octet: u8) -> bool
+    ensures { result ≡ blank octet }
+{
+    (octet == b' ') | (octet == b'\t') | (octet == b'\n') | (octet == b'\r')
 }
 
 // Past the digits at a place. (By places: an iterator that skips to the place takes each step to it.)

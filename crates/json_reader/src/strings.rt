@@ -1,7 +1,6 @@
 // Section 7: string = quotation-mark *char quotation-mark, and the name in front of a member's value.
 ghost use Rattle.std.specs.Prelude.{◌≡◌, drop};
-ghost use Rattle.json_reader.specs.Places.{past};
-ghost use Rattle.rules_json.specs.Reader.{at as octet_at, name_size, string_size};
+ghost use Rattle.rules_json.specs.Reader.{at as octet_at, name_size, past, string_size};
 
 use crate::characters::character;
 use crate::octets::{blanks, octet, past_blanks};

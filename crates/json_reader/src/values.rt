@@ -2,8 +2,8 @@
 // and the octets left falling; that they end is shown by the depth alone.
 ghost use Rattle.std.specs.Prelude.{true, ◌≡◌, ◌<◌, ◌≤◌, drop, length, ltb};
 ghost use Rattle.std.specs.List.{list_all};
-ghost use Rattle.json_reader.specs.Places.{behind as item_behind, past as past_read};
-ghost use Rattle.rules_json.specs.Reader.{at as octet_at, scalar_size, value_size, word_size};
+ghost use Rattle.json_reader.specs.Places.{behind as item_behind};
+ghost use Rattle.rules_json.specs.Reader.{at as octet_at, past as past_read, scalar_size, value_size, word_size};
 
 use crate::numbers::number;
 use crate::octets::{Next, octet, past_blanks};

@@ -11,7 +11,11 @@ use verb::Status;
 const ROOM: usize = MOST_BYTES + 1;
 
 fn main(rt: HostRuntime) -> ExitCode {
-    verb::over_input(&rt, &mut [0u8; ROOM], |input| printed(&rt, input))
+    let mut room = [0u8; ROOM];
+    match verb::input(&rt, &mut room) {
+        Some(input) => verb::ended(&rt, printed(&rt, input)),
+        None => ExitCode::SUCCESS,
+    }
 }
 
 fn printed(rt: &impl Print, input: &[u8]) -> io::Result<Status> {

@@ -2,10 +2,10 @@
 ghost use Rattle.std.specs.Prelude.{◌≡◌};
 ghost use Rattle.rules_plan.specs.Answered.{said_line, word_number};
 ghost use Rattle.rules_plan.specs.Lines.{line_of, line_said};
-ghost use Rattle.rules_plan.specs.Words.{words};
+ghost use Rattle.rules_plan.specs.Words.{words as Words·words};
 
 use crate::names::name_of;
-use crate::numbers::{filled, understood};
+use crate::numbers::{Behind, filled};
 use crate::words::{Words, uncommented};
 use rules::Report;
 use rules_plan::{Fault, Spoken, Word};
@@ -29,15 +29,20 @@ pub fn line_in(line: &[u8]) -> Spoken
 }
 
 // A name, and what stands behind it. A word that is no name comes first.
-fn line_said(word: Word, behind: Words<'_>) -> Spoken
-    ensures { said_line result ≡ line_said (word_number word) (words behind.entry.line.now) }
+fn line_said(word: Word, words: Words<'_>) -> Spoken
+    ensures { said_line result ≡ line_said (word_number word) (Words·words words.entry.line.now) }
 {
+    let mut behind = Behind {
+        words,
+        understood: Ok(()),
+    };
+    let numbers = filled(word, &mut behind);
     Spoken {
         word: Some(word),
-        numbers: filled(word, behind),
+        numbers,
         understood: match word {
             Word::Other => Err(Fault::NotAName),
-            _ => understood(word, behind),
+            _ => behind.ended(),
         },
     }
 }

@@ -26,7 +26,7 @@ const NAMES: [(&[u8], Word); 14] = [
 pub(crate) fn name_of(word: &[u8]) -> Word
     ensures { word_number result ≡ name_of word.now }
 {
-    for (name, meant) in NAMES {
+    for &(name, meant) in &NAMES {
         if word.eq_ignore_ascii_case(name) {
             return meant;
         }

@@ -1,70 +1,69 @@
-// The numbers behind a name: how many there are to be, how great they may be, and what they fill.
-ghost use Rattle.std.specs.Prelude.{◌≡◌, map};
-ghost use Rattle.plan_lines.specs.Behind.{most_number, rest};
+// The numbers behind a name: what they fill, and what is wrong with the words there.
+ghost use Rattle.std.specs.Prelude.{◌≡◌, []};
+ghost use Rattle.plan_lines.specs.Behind.{left, reads, rest};
 ghost use Rattle.rules.specs.Answered.{given};
 ghost use Rattle.rules.specs.Screen.{our_number};
 ghost use Rattle.rules_plan.specs.Answered.{fault_of, word_number};
-ghost use Rattle.rules_plan.specs.Lines.{byte_at, mosts, number_at, number_fault, numbers_of, words_fault};
+ghost use Rattle.rules_plan.specs.Lines.{byte_at, mosts, number_at, numbers_of};
 ghost use Rattle.rules_plan.specs.Words.{words as Words·words};
 
 use crate::words::Words;
 use rules::Report;
 use rules_plan::{Fault, ReportWord, Setting, Word};
 
-// The most that a number behind a name may be.
+// The words behind a name that have not been read yet, and what is wrong with those that have. Each is read once:
+// it fills its place, and the first that is at fault says what is wrong with the line.
 #[derive(Clone, Copy)]
-enum Most {
-    Byte,
-    SixteenBits,
+pub(crate) struct Behind<'a> {
+    pub words: Words<'a>,
+    pub understood: Result<(), Fault>,
 }
 
-// What is wrong with the words behind a name, from left to right.
-pub(crate) fn understood(word: Word, mut behind: Words<'_>) -> Result<(), Fault>
-    ensures { fault_of result ≡ words_fault (mosts (word_number word)) (Words·words behind.entry.line.now) }
-{
-    for most in mosts_of(word) {
-        let Some(number) = behind.next() else {
-            return Err(Fault::NumberMissing);
+impl Behind<'_> {
+    // The next word as a byte, and 0 where it is none.
+    fn byte(&mut self) -> u8
+        ensures value { result ≡ byte_at (Words·words self.old.words.line.now) 0 }
+        ensures words_after { Words·words self.new.words.line.now ≡ rest (Words·words self.old.words.line.now) }
+        ensures told { reads 255 self.old.understood (Words·words self.old.words.line.now) self.new.understood (Words·words self.new.words.line.now) }
+    {
+        let fault = match self.words.next() {
+            None => Fault::NumberMissing,
+            Some(word) => match byte_in(word) {
+                Some(number) => return number,
+                None => Fault::NotAByte,
+            },
         };
-        within(*most, number)?;
+        self.understood = self.understood.and(Err(fault));
+        0
     }
-    match behind.next() {
-        None => Ok(()),
-        Some(_) => Err(Fault::WordTooMany),
-    }
-}
 
-// The most that each number behind a name may be.
-#[tactic(auto, unfolding(rules_plan::specs::Lines::mosts))]
-fn mosts_of(word: Word) -> &'static [Most]
-    ensures { map most_number result.now ≡ mosts (word_number word) }
-{
-    match word {
-        Word::Setting(Setting::Tracks) => &[Most::Byte],
-        Word::Setting(_) | Word::Report(ReportWord::Clock) => &[Most::SixteenBits],
-        Word::Report(
-            ReportWord::Occupied | ReportWord::Free | ReportWord::Failed | ReportWord::Restored,
-        ) => &[Most::Byte, Most::Byte],
-        Word::Report(ReportWord::Head) => &[Most::Byte, Most::SixteenBits],
-        Word::Report(ReportWord::Report) => &[
-            Most::Byte,
-            Most::Byte,
-            Most::Byte,
-            Most::Byte,
-            Most::SixteenBits,
-        ],
-        Word::Report(ReportWord::Normalise) | Word::Other => &[],
+    // The next word in sixteen bits, and 0 where it is no number.
+    fn sixteen_bits(&mut self) -> u16
+        ensures value { result ≡ number_at (Words·words self.old.words.line.now) 0 }
+        ensures words_after { Words·words self.new.words.line.now ≡ rest (Words·words self.old.words.line.now) }
+        ensures told { reads 65535 self.old.understood (Words·words self.old.words.line.now) self.new.understood (Words·words self.new.words.line.now) }
+    {
+        let fault = match self.words.next() {
+            None => Fault::NumberMissing,
+            Some(word) => match digits::number_in(word) {
+                Some(number) => return number,
+                None => Fault::NotSixteenBits,
+            },
+        };
+        self.understood = self.understood.and(Err(fault));
+        0
     }
-}
 
-// Whether a word is a number up to a most.
-fn within(most: Most, word: &[u8]) -> Result<(), Fault>
-    ensures { fault_of result ≡ number_fault (most_number most) word.now }
-{
-    match most {
-        Most::Byte if byte_in(word).is_none() => Err(Fault::NotAByte),
-        Most::SixteenBits if digits::number_in(word).is_none() => Err(Fault::NotSixteenBits),
-        _ => Ok(()),
+    // What is wrong, where no word may be left.
+    pub(crate) fn ended(self) -> Result<(), Fault>
+        ensures { fault_of result ≡ left [] self.entry.understood (Words·words self.entry.words.line.now) }
+    {
+        self.understood?;
+        let mut words = self.words;
+        match words.next() {
+            None => Ok(()),
+            Some(_) => Err(Fault::WordTooMany),
+        }
     }
 }
 
@@ -75,45 +74,31 @@ fn byte_in(word: &[u8]) -> Option<u8>
     u8::try_from(digits::number_in(word)?).ok()
 }
 
-// The next word as a byte, and 0 where it is none.
-fn byte(words: &mut Words<'_>) -> u8
-    ensures value { result ≡ byte_at (Words·words words.old.line.now) 0 }
-    ensures words_after { Words·words words.new.line.now ≡ rest (Words·words words.old.line.now) }
-{
-    words.next().and_then(byte_in).unwrap_or(0)
-}
-
-// The next word in sixteen bits, and 0 where it is no number.
-fn sixteen_bits(words: &mut Words<'_>) -> u16
-    ensures value { result ≡ number_at (Words·words words.old.line.now) 0 }
-    ensures words_after { Words·words words.new.line.now ≡ rest (Words·words words.old.line.now) }
-{
-    words.next().and_then(digits::number_in).unwrap_or(0)
-}
-
 // What the numbers behind a name fill: for a setting its one number, or a report of its kind. A `report` is of any
 // numbers, so that one can be entered that is refused.
 #[tactic(auto, unfolding(rules_plan::specs::Lines::numbers_of))]
-pub(crate) fn filled(word: Word, mut behind: Words<'_>) -> Report
-    ensures { result ≡ numbers_of (word_number word) (Words·words behind.entry.line.now) }
+pub(crate) fn filled(word: Word, behind: &mut Behind<'_>) -> Report
+    ensures value { result ≡ numbers_of (word_number word) (Words·words behind.old.words.line.now) }
+    ensures told { left [] behind.new.understood (Words·words behind.new.words.line.now) ≡ left (mosts (word_number word)) behind.old.understood (Words·words behind.old.words.line.now) }
 {
-    let words = &mut behind;
     match word {
-        Word::Setting(Setting::Tracks) => reports::report(0, byte(words), 0, 0, 0),
-        Word::Setting(_) => reports::report(0, 0, 0, 0, sixteen_bits(words)),
-        Word::Report(ReportWord::Occupied) => reports::occupied(byte(words), byte(words)),
-        Word::Report(ReportWord::Free) => reports::freed(byte(words), byte(words)),
-        Word::Report(ReportWord::Clock) => reports::clock(sixteen_bits(words)),
-        Word::Report(ReportWord::Failed) => reports::failed(byte(words), byte(words)),
-        Word::Report(ReportWord::Restored) => reports::restored(byte(words), byte(words)),
-        Word::Report(ReportWord::Head) => reports::condition(byte(words), sixteen_bits(words)),
+        Word::Setting(Setting::Tracks) => reports::report(0, behind.byte(), 0, 0, 0),
+        Word::Setting(_) => reports::report(0, 0, 0, 0, behind.sixteen_bits()),
+        Word::Report(ReportWord::Occupied) => reports::occupied(behind.byte(), behind.byte()),
+        Word::Report(ReportWord::Free) => reports::freed(behind.byte(), behind.byte()),
+        Word::Report(ReportWord::Clock) => reports::clock(behind.sixteen_bits()),
+        Word::Report(ReportWord::Failed) => reports::failed(behind.byte(), behind.byte()),
+        Word::Report(ReportWord::Restored) => reports::restored(behind.byte(), behind.byte()),
+        Word::Report(ReportWord::Head) => {
+            reports::condition(behind.byte(), behind.sixteen_bits())
+        }
         Word::Report(ReportWord::Normalise) => reports::normalise(),
         Word::Report(ReportWord::Report) => reports::report(
-            byte(words),
-            byte(words),
-            byte(words),
-            byte(words),
-            sixteen_bits(words),
+            behind.byte(),
+            behind.byte(),
+            behind.byte(),
+            behind.byte(),
+            behind.sixteen_bits(),
         ),
         Word::Other => Report::default(),
     }

@@ -20,7 +20,11 @@ pub(crate) const MOST_TEXT: usize = 262144;
 const ROOM: usize = MOST_TEXT + 1;
 
 fn main(rt: HostRuntime) -> ExitCode {
-    verb::over_input(&rt, &mut [0u8; ROOM], |text| recorded(&rt, text))
+    let mut room = [0u8; ROOM];
+    match verb::input(&rt, &mut room) {
+        Some(text) => verb::ended(&rt, recorded(&rt, text)),
+        None => ExitCode::SUCCESS,
+    }
 }
 
 fn recorded(rt: &(impl Eprint + Print), text: &[u8]) -> io::Result<Status> {

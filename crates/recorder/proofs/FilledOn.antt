@@ -13,7 +13,7 @@ use lib.Seq.{set_out}
 use Rattle.recorder.specs.AfterLine.{after_line, filling}
 use Rattle.recorder.specs.ByLine.{filled_from, lines_from}
 use Rattle.register.proofs.Ordered.{refused}
-use Rattle.rules.specs.Answered.{answered, given, made_in, taken_in}
+use Rattle.rules.specs.Answered.{answered, given, made_in}
 use Rattle.rules.specs.Register.{appended, appended_bytes, start_answer}
 use Rattle.rules.specs.Screen.{provided}
 use Rattle.rules.specs.Station.{made, settings_answer, within_limits}
@@ -23,13 +23,12 @@ use Rattle.rules.specs.declared.Refusal.{Refusal}
 use Rattle.rules.specs.declared.Report.{Report}
 use Rattle.rules.specs.declared.Settings.{Settings}
 use Rattle.rules.specs.declared.Station.{Station}
-use Rattle.rules.specs.declared.Taken.{Taken}
 use Rattle.rules_plan.specs.Lines.{is_report, line_of}
 use Rattle.rules_plan.specs.Recording.{Filling, entered}
 use Rattle.rules_plan.specs.declared.Line.{Line}
 use Rattle.std.proofs.Common.{Err, None, Ok, Option, Result, Some}
 use Rattle.std.specs.Bool.{⊤}
-use Rattle.std.specs.Result.{IsOk, result_unwrap_or}
+use Rattle.std.specs.Result.{IsOk}
 
 -- ---- with settings within their limits
 
@@ -54,15 +53,11 @@ module _ (c : Settings) (inside : within_limits c ≡ true) where
   made_ok (Err refusal) e =
       absurd (omega (arith, (refused refusal).0, ap (λ (m : Made). m.answer) e, settings_right))
 
--- ---- a station made, and the one that a report leaves
+-- ---- a station made
 
 pub made_station : (r : Result Station Refusal) (c : Settings) (s : Station) → made_in r ≡ made c → r ≡ Ok s
     → s ≡ (made c).station
 made_station r c s e f = ap (λ (m : Made). m.station) (sym (ap made_in f) ∙ e)
-
-taken_station : (old : Station) (r : Result Station Refusal) → result_unwrap_or r old ≡ (taken_in old r).station
-taken_station old (Ok s) = refl
-taken_station old (Err refusal) = refl
 
 -- ---- a turn
 
@@ -113,18 +108,15 @@ module _ (found : List ℕ) (here behind : List (List ℕ)) (e : here ≡ found 
         by_test true h = let same : l.numbers ≡ report = cc in (refl, same)
         by_test false h = absurd (cc)
 
-    pub filled_on : (count : ℕ) (old station : Station) (bytes bytes' : List ℕ) (r : Result Station Refusal)
-        (whole : Filling)
-        → taken_in old r ≡ appended bytes count old report
-        → station ≡ result_unwrap_or r old
+    pub filled_on : (count : ℕ) (old station : Station) (bytes bytes' : List ℕ) (whole : Filling)
+        → station ≡ (appended bytes count old report).station
         → bytes' ≡ appended_bytes bytes count old report
         → filled_from (filling count old bytes) here ≡ whole
         → filled_from (filling (count + 1) station bytes') behind ≡ whole
     unfolding entered
-    filled_on count old station bytes bytes' r whole t u b h =
+    filled_on count old station bytes bytes' whole s b h =
         let f = filling count old bytes in
-        let taken = u ∙ taken_station old r ∙ ap (λ (t : Taken). t.station) t in
-        ap₂ (λ s b. filled_from (filling (count + 1) s b) behind) taken b
+        ap₂ (λ s b. filled_from (filling (count + 1) s b) behind) s b
         ∙ ap (λ n. filled_from (filling n (appended bytes count old report).station
         (appended_bytes bytes count old report)) behind) (add-one count)
         ∙ ap (λ r. filled_from (entered r f) behind) (sym a_report.1)

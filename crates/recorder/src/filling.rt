@@ -29,7 +29,7 @@ pub(crate) fn fill(
     for (line, found) in Lines::of(text).enumerate() {
         if let Some(report) = report_in(line_in(found)) {
             // A report that is refused is entered too, and leaves the station as it was.
-            station = register::append(register, count, station, report).unwrap_or(station);
+            let _ = register::enter(register, count, &mut station, report);
             put_line(rows, count, line + 1);
             count += 1;
         }

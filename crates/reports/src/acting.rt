@@ -3,40 +3,58 @@ ghost use Rattle.std.specs.Prelude.{◌≡◌};
 ghost use Rattle.reports.specs.Placed.{track_after};
 ghost use Rattle.rules.specs.Kinds.{kind_of};
 ghost use Rattle.rules.specs.Reports.{acted, named_track};
-ghost use Rattle.rules.specs.Station.{with_track};
+ghost use Rattle.rules.specs.Station.{with_condition, with_track};
 
 use crate::known::Known;
-use rules::{Kind, Report, Station, Track};
+use rules::{Kind, Station, Track};
 
 impl Known {
-    // The station after the report, where it is accepted.
+    // The station becomes the one after the report, where that is accepted.
     #[tactic(auto, unfolding(rules::specs::Reports::acted, crate::specs::Placed::track_after))]
-    pub(crate) fn act(self, station: Station) -> Station
-        ensures { result ≡ acted (kind_of self.report.kind) station self.report }
+    pub(crate) fn act(self, station: &mut Station)
+        ensures { station.new ≡ acted (kind_of self.report.kind) station.old self.report }
     {
-        let Report { a, value, .. } = self.report;
-        let changed = match self.kind {
-            Kind::Clock => return clock::ticks(station, value),
-            Kind::IslandOccupied | Kind::IslandFree | Kind::DetectorRestored => {
-                self.with_named(station)
+        match self.kind {
+            Kind::Clock => {
+                clock::pass(station, self.report.value);
+                return;
             }
-            Kind::DetectorFailed => station::with_fault(self.with_named(station), true),
-            Kind::HeadCondition => station::with_condition(station, a, value),
-            Kind::Normalise => station::with_hold(station::with_fault(station, false), 0),
-        };
-        station::hold_set(changed)
+            Kind::IslandOccupied | Kind::IslandFree | Kind::DetectorRestored => {
+                self.put_named(station);
+            }
+            Kind::DetectorFailed => {
+                self.put_named(station);
+                station.fault = true;
+            }
+            Kind::HeadCondition => self.put_condition(station),
+            Kind::Normalise => {
+                station.fault = false;
+                station.hold = 0;
+            }
+        }
+        station::settle_in(station);
     }
 
-    // The station with the track that the report names as it is after the report.
-    #[tactic(auto, unfolding(rules::specs::Station::with_track, rules::specs::Station::track_at))]
-    fn with_named(self, mut station: Station) -> Station
-        ensures { result ≡ with_track station self.report.a (track_after (kind_of self.report.kind) (named_track station self.report) self.report) }
+    // The track that the report names becomes what it is after the report.
+    #[tactic(auto, using(std::proofs::lemmas::List::set_past), unfolding(rules::specs::Station::with_track, rules::specs::Station::track_at))]
+    fn put_named(self, station: &mut Station)
+        ensures { station.new ≡ with_track station.old self.report.a (track_after (kind_of self.report.kind) (named_track station.old self.report) self.report) }
     {
         let at = usize::from(self.report.a);
-        if at < station.tracks.len() {
-            station.tracks[at] = self.track_after(station.tracks[at]);
+        if let Some(&track) = station.tracks.get(at) {
+            station.tracks[at] = self.track_after(track);
         }
-        station
+    }
+
+    // The head that the report names gets its condition.
+    #[tactic(auto, unfolding(rules::specs::Station::with_condition))]
+    fn put_condition(self, station: &mut Station)
+        ensures { station.new ≡ with_condition station.old self.report.a self.report.value }
+    {
+        let at = usize::from(self.report.a);
+        if at < station.conditions.len() {
+            station.conditions[at] = self.report.value;
+        }
     }
 
     // The track after the report; a report that names no island leaves it as it is.

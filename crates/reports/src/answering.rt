@@ -12,7 +12,14 @@ use rules::{EVERY_PART_FAILED, Island, Kind, Refusal, Report, Station};
 pub fn answer(station: Station, report: Report) -> Result<(), Refusal>
     ensures { answered result ≡ answer_of station report }
 {
-    accepted(&station, report)?;
+    answer_to(&station, report)
+}
+
+// The same of a station that is lent: one that is handed over is copied.
+pub fn answer_to(station: &Station, report: Report) -> Result<(), Refusal>
+    ensures { answered result ≡ answer_of station.now report }
+{
+    accepted(station, report)?;
     Ok(())
 }
 
@@ -79,11 +86,10 @@ impl Known {
         ensures { answered result ≡ state_answer station.now self.report }
     {
         let Report { a, b, .. } = self.report;
-        if self.kind == Kind::Normalise && station::is_obstructed(*station) {
+        if self.kind == Kind::Normalise && station::obstructed(station) {
             return Err(Refusal::NotClear);
         }
-        let island = islands::island_at(station::track_at(*station, a), b);
-        if self.is_already(island) {
+        if self.is_already(station::island_of(station, a, b)) {
             return Err(Refusal::AlreadySo);
         }
         Ok(())

@@ -17,6 +17,7 @@ pub(crate) struct Known {
 
 impl Known {
     // Any other kind is refused with 1.
+    #[inline(always)]
     pub(crate) fn of(report: Report) -> Result<Self, Refusal>
         ensures refused { IfErr result (λ refusal. (refusal ≡ Refusal.NoSuchKind) × (kind_of report.kind ≡ no_kind)) }
         ensures kept { IfOk result (λ known. known.report ≡ report) }

@@ -19,7 +19,11 @@ const NO_ROW: usize = 65536;
 const ROOM: usize = MOST_BYTES + 1;
 
 fn main(rt: HostRuntime) -> ExitCode {
-    verb::over_input(&rt, &mut [0u8; ROOM], |input| rows(&rt, input))
+    let mut room = [0u8; ROOM];
+    match verb::input(&rt, &mut room) {
+        Some(input) => verb::ended(&rt, rows(&rt, input)),
+        None => ExitCode::SUCCESS,
+    }
 }
 
 // The rows one after the other, up to the first that cannot be written.

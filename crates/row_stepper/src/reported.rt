@@ -26,7 +26,8 @@ pub(crate) fn report(rt: &impl Print, said: Report) -> io::Result<()> {
 
 // A track and an island.
 fn placed(rt: &impl Print, word: &str, said: Report) -> io::Result<()> {
-    println!(rt; "report    {word} {} {}", said.a, said.b)
+    print!(rt; "report    {word}")?;
+    println!(rt; " {} {}", said.a, said.b)
 }
 
 fn in_numbers(rt: &impl Print, said: Report) -> io::Result<()> {

@@ -1,6 +1,6 @@
 -- A reader on lists. Each function tells how many octets of its rule stand at the head of a text, as many as can, and 0 where none do; beside it stands what
 -- they say. That it takes exactly the texts of the rules is shown, and not believed.
-use Rattle.std.specs.Prelude.{ℕ, zero, suc, ◌+◌, ◌-◌, ◌*◌, Bool, cond, true, not, ◌&&◌, ◌||◌, List, [], ◌∷◌, ◌++◌, eqb, ltb, drop, get_or, length, take}
+use Rattle.std.specs.Prelude.{ℕ, zero, suc, ◌+◌, ◌-◌, ◌*◌, Bool, cond, true, not, ◌&&◌, ◌||◌, List, [], ◌∷◌, ◌++◌, Option, None, Some, eqb, ltb, drop, get_or, length, take}
 use Rattle.rules_json.specs.Abnf.{octets, within}
 use Rattle.rules_json.specs.Grammar.{blank, digit, e, escaped, four_hex, hexdig, sign}
 use Rattle.rules_json.specs.Tree.{Member, Scalar, Tree, array, false_literal, null_literal, number, object, scalar, string, true_literal}
@@ -22,6 +22,11 @@ blanks s = leading blank s
 
 unfoldable pub digits : List ℕ → ℕ
 digits s = leading digit s
+
+-- the place past so many octets that were read at a place: none where there are none
+unfoldable pub past : ℕ → ℕ → Option ℕ
+past at zero = None
+past at (suc n) = Some (at + suc n)
 
 -- n octets and m more, where there are more
 abbrev pub further : ℕ → ℕ → ℕ

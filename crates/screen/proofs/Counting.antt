@@ -13,12 +13,11 @@ use Rattle.digits.proofs.Counted.{no_digit, ours_up_to}
 use Rattle.json_reader.proofs.Nested.{scalar_value}
 use Rattle.json_reader.proofs.Places.{first_behind, taken_in_text}
 use Rattle.json_reader.proofs.Read.{none_read, some_read}
-use Rattle.json_reader.specs.Places.{past}
 use Rattle.std.specs.Prelude.{None, Some}
 use Rattle.rules.specs.Screen.{and_then, number_after, number_of, number_text, our_number, provided}
 use Rattle.rules.specs.Words.{any}
 use Rattle.rules_json.specs.Grammar.{digit}
-use Rattle.rules_json.specs.Reader.{at, number_size, scalar_said, scalar_size, value_said, value_size}
+use Rattle.rules_json.specs.Reader.{at, number_size, past, scalar_said, scalar_size, value_said, value_size}
 use Rattle.rules_json.specs.Tree.{Member, Tree, array, number, object, scalar, string, false_literal, null_literal}
 use Rattle.rules_json.specs.Tree.{true_literal}
 use Rattle.screen.proofs.Within.{number_within}

@@ -15,11 +15,10 @@ use Rattle.json_reader.proofs.Cases.{both, by_test, good_if, within_true}
 use Rattle.json_reader.proofs.CharacterSizes.{four}
 use Rattle.json_reader.proofs.Places.{first_behind, octet_behind}
 use Rattle.json_reader.proofs.Read.{past_none, past_some}
-use Rattle.json_reader.specs.Places.{past}
 use Rattle.json_exact.proofs.Utf8.{utf8_sound}
 use Rattle.rules.specs.Screen.{same}
 use Rattle.rules_json.specs.Grammar.{escaped}
-use Rattle.rules_json.specs.Reader.{at, char_size, char_units, decoded, escape_size, utf8_size}
+use Rattle.rules_json.specs.Reader.{at, char_size, char_units, decoded, escape_size, past, utf8_size}
 use Rattle.rules_json.specs.Utf8.{utf16}
 use Rattle.screen.proofs.Hexadecimal.{Said, four_said, number, said_four}
 use Rattle.screen.specs.Letters.{is_letter, letter_size, stands_for}

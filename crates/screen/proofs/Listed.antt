@@ -16,7 +16,7 @@ use Rattle.json_reader.proofs.Cases.{by_test}
 use Rattle.json_reader.proofs.Nested.{list_value}
 use Rattle.json_reader.proofs.Places.{in_text}
 use Rattle.json_reader.proofs.Read.{none_read, past_none, some_read}
-use Rattle.json_reader.specs.Places.{past}
+use Rattle.rules_json.specs.Reader.{past}
 use Rattle.std.specs.Prelude.{None}
 use Rattle.rules.specs.Screen.{list_of, provided}
 use Rattle.rules_json.specs.Reader.{at, blanks, bracketed_said, bracketed_size, scalar_said, value_said, value_size}

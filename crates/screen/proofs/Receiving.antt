@@ -15,13 +15,12 @@ use Rattle.std.specs.Result.{IsErrAnd}
 use Rattle.rules.specs.Answered.{received_in}
 use Rattle.rules.specs.declared.Refusal.{Refusal}
 use Rattle.json_reader.proofs.Read.{none_read, some_read}
-use Rattle.json_reader.specs.Places.{past}
 use Rattle.rules.specs.Screen.{aspect_in, is_taken, is_there, members_of, message_in, no_message, ours, reading_answer}
 use Rattle.rules.specs.Screen.{received, station_in, tracks_in}
 use Rattle.rules.specs.Words.{◌if◌then◌}
 use Rattle.rules.specs.declared.Message.{Message}
 use Rattle.rules.specs.declared.Received.{Received}
-use Rattle.rules_json.specs.Reader.{blanks, end_of_text, is_text, text_said, text_size, value_said, value_size}
+use Rattle.rules_json.specs.Reader.{blanks, end_of_text, is_text, past, text_said, text_size, value_said, value_size}
 use Rattle.screen.specs.Places.{Outermost, Places, message_given}
 use Rattle.screen.specs.declared.members.Found.{Found}
 

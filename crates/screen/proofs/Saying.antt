@@ -14,12 +14,11 @@ use Rattle.json_reader.proofs.Cases.{by_test, within_true}
 use Rattle.json_reader.proofs.Places.{first_behind, in_text, text_behind}
 use Rattle.json_reader.proofs.Quoted.{turning}
 use Rattle.json_reader.proofs.Read.{none_read, some_read}
-use Rattle.json_reader.specs.Places.{past}
 use Rattle.std.specs.Prelude.{None, Some}
 use Rattle.json_reader.proofs.Turning.{through, through_enough, unrolled as run-unrolled}
 use Rattle.rules.specs.Screen.{same}
 use Rattle.rules.specs.Words.{any}
-use Rattle.rules_json.specs.Reader.{at, char_size, char_units, fails, further, goes_on, last, said_after}
+use Rattle.rules_json.specs.Reader.{at, char_size, char_units, fails, further, goes_on, last, past, said_after}
 use Rattle.rules_json.specs.Reader.{size_after, string_size, string_step, string_units}
 use Rattle.screen.proofs.Letters.{Coded, itself, no_letter, no_units, none_either, pair, said_letter, units}
 use Rattle.screen.proofs.Telling.{told, told_enough, unrolled}

@@ -14,11 +14,11 @@ use Rattle.json_reader.proofs.Nested.{member, no_name, object_value}
 use Rattle.json_reader.proofs.Places.{in_text, text_behind}
 use Rattle.json_reader.proofs.Read.{some_read}
 use Rattle.json_reader.proofs.Walked.{another, end_found, ended, item_found, neither}
-use Rattle.json_reader.specs.Places.{behind, next_from, past}
+use Rattle.json_reader.specs.Places.{behind, next_from}
 use Rattle.json_reader.specs.declared.octets.Next.{Next}
 use Rattle.json_reader.specs.declared.values.After.{After}
 use Rattle.rules.specs.Screen.{members_of}
-use Rattle.rules_json.specs.Reader.{at, blanks, bracketed_said, member_said, member_size, name_size, scalar_said}
+use Rattle.rules_json.specs.Reader.{at, blanks, bracketed_said, member_said, member_size, name_size, past, scalar_said}
 use Rattle.rules_json.specs.Reader.{string_size, string_units, value_said, value_size}
 use Rattle.rules_json.specs.Tree.{Member, Tree, array, scalar}
 use Rattle.screen.proofs.Finding.{AllFinding, Nowhere, all_done, all_none, all_on}

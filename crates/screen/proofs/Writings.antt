@@ -18,7 +18,7 @@ use Rattle.std.specs.Option.{ok_or}
 use Rattle.std.specs.Prelude.{Err, IfOk, IfSome, Ok, Option, Result}
 use Rattle.rules.specs.Answered.{written_in}
 use Rattle.rules.specs.declared.Refusal.{Refusal}
-use Rattle.text.specs.Texts.{length_where_it_fits}
+use Rattle.rules.specs.Printer.{length_where_it_fits}
 use Rattle.text.proofs.Placing.{Told, begun, bytes_fitted, bytes_unfitted, length_fitted, length_unfitted}
 
 module _ (m : Message) (b : List ℕ) where

@@ -3,12 +3,11 @@ use Rattle.std.specs.Prelude.{ℕ, ◌+◌, Bool, ◌&&◌, ◌||◌, List, Opti
 use Rattle.std.specs.Bool.{then_some}
 use Rattle.std.proofs.Math.Option as Math
 use Rattle.std.proofs.Math.Option.{none, some}
-use Rattle.json_reader.specs.Places.{past}
 use Rattle.rules.specs.Screen.{aspect_in, aspect_name, first, is_there, members_of, message_in, number_text}
 use Rattle.rules.specs.Screen.{our_number, padded, same, station_in, station_name, track_of, tracks_in, tracks_name}
 use Rattle.rules.specs.declared.Message.{Message}
 use Rattle.rules_json.specs.Grammar.{digit, e, joined}
-use Rattle.rules_json.specs.Reader.{scalar_said, value_said, value_size}
+use Rattle.rules_json.specs.Reader.{past, scalar_said, value_said, value_size}
 use Rattle.rules_json.specs.Tree.{Member, Tree}
 use Rattle.screen.specs.declared.tracks.Five.{Five}
 use Rattle.screen.specs.declared.members.Found.{Found}

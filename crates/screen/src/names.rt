@@ -1,9 +1,8 @@
 // Names of members, compared after escapes.
 ghost use Rattle.std.specs.Prelude.{false, not, true, ◌≡◌, ◌≤◌, drop};
-ghost use Rattle.json_reader.specs.Places.{past};
 ghost use Rattle.rules.specs.Screen.{same};
 ghost use Rattle.rules.specs.Words.{any};
-ghost use Rattle.rules_json.specs.Reader.{at as octet_at, string_size, string_units};
+ghost use Rattle.rules_json.specs.Reader.{at as octet_at, past, string_size, string_units};
 ghost use Rattle.screen.specs.Letters.{is_letter, letter_size, stands_for};
 
 use json_reader::octet;

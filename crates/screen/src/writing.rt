@@ -2,11 +2,10 @@
 ghost use Rattle.std.specs.Prelude.{not, true, ◌≡◌, ◌≤◌, IfOk, IfSome, eqb, ltb, length};
 ghost use Rattle.io.specs.Counts.{IsPrefixLen};
 ghost use Rattle.rules.specs.Answered.{written_in};
-ghost use Rattle.rules.specs.Printer.{written as written_at_start, zero_or_one};
+ghost use Rattle.rules.specs.Printer.{length_where_it_fits, written as written_at_start, zero_or_one};
 ghost use Rattle.rules.specs.Screen.{after_writing, message_fits, written, written_of};
 ghost use Rattle.rules.specs.Words.{any};
 ghost use Rattle.screen.specs.Texts.{track_text, track_texts};
-ghost use Rattle.text.specs.Texts.{length_where_it_fits};
 
 use rules::{Message, Refusal, TrackDigits};
 use text::{Decimal, in_a_row};
@@ -38,14 +37,18 @@ fn fits(message: Message) -> bool
     if GREATEST_ASPECT < message.aspect || !(1..=4).contains(&message.tracks) {
         return false;
     }
-    let (shown, rest) = message.digits.split_at(5 * usize::from(message.tracks));
+    let digits = message.digits;
+    let (shown, rest) = digits.split_at(5 * usize::from(message.tracks));
     !some_above(1, shown) && !some_above(0, rest)
 }
 
+// (By |, and each digit is looked at: an any asks again behind each of them whether it is done.)
 fn some_above(most: u8, digits: &[u8]) -> bool
     ensures { result ≡ any (ltb most) digits.now }
 {
-    digits.iter().any(|digit| most < *digit)
+    digits
+        .iter()
+        .fold(false, |found, digit| found | (most < *digit))
 }
 
 // Writes the text of a message that is within its ranges, and answers its length. Where it does not fit there

@@ -11,7 +11,11 @@ use verb::Status;
 const ROOM: usize = 4097;
 
 fn main(rt: HostRuntime) -> ExitCode {
-    verb::over_input(&rt, &mut [0u8; ROOM], |input| told(&rt, input))
+    let mut room = [0u8; ROOM];
+    match verb::input(&rt, &mut room) {
+        Some(input) => verb::ended(&rt, told(&rt, input)),
+        None => ExitCode::SUCCESS,
+    }
 }
 
 // Writes what a text says.
@@ -28,17 +32,18 @@ fn told(rt: &impl Print, text: &[u8]) -> io::Result<Status> {
     }
 }
 
-// Of the tracks only those that are there, a space before each.
+// Of the tracks only those that are there, a space before each, and each by one write.
 fn shown(rt: &impl Print, message: Message) -> io::Result<()> {
     print!(rt;
         "station {} aspect {} tracks",
         message.station, message.aspect
     )?;
     for track in message.digits.chunks_exact(5).take(message.tracks.into()) {
-        verb::write(rt, b" ")?;
-        for &digit in track {
-            verb::write(rt, if digit == 0 { b"0" } else { b"1" })?;
+        let mut text = [b' '; 6];
+        for (place, &digit) in text[1..].iter_mut().zip(track) {
+            *place = if digit == 0 { b'0' } else { b'1' };
         }
+        verb::write(rt, &text)?;
     }
     verb::write(rt, b"\n")
 }

@@ -19,7 +19,11 @@ fn main(rt: HostRuntime) -> ExitCode {
     let Some(number) = digits::number_in(verb::word(&rt, 2, &mut word)) else {
         return verb::ended(&rt, refused(&rt, Refusal::BadMember.into()));
     };
-    verb::over_input(&rt, &mut [0u8; ROOM], |input| told(&rt, number, input))
+    let mut room = [0u8; ROOM];
+    match verb::input(&rt, &mut room) {
+        Some(input) => verb::ended(&rt, told(&rt, number, input)),
+        None => ExitCode::SUCCESS,
+    }
 }
 
 // Writes the message of a register's last row.

@@ -1,4 +1,4 @@
 pub mod Apart
-pub mod Arrays
+pub mod EachZone
 pub mod ShownLaws
 pub mod Surveys

@@ -27,10 +27,6 @@ one_more c l j d h = λ k.
     }
 
 module _ {A : Type 0} where
-  pub any_is : (p : A → Bool) (l : List A) → list_any p l ≡ any p l
-  any_is p [] = refl
-  any_is p (x ∷ xs) = ap (λ (b : Bool). p x || b) (any_is p xs)
-
   -- either of two tests, of each element
   pub any_of_two : (p q : A → Bool) (l : List A) → list_any (λ x. p x || q x) l ≡ any p l || any q l
   any_of_two p q [] = refl

@@ -6,6 +6,7 @@ ghost use Rattle.rules.specs.Station.{live, obstructed};
 ghost use Rattle.rules.specs.Words.{◌if◌then◌};
 ghost use Rattle.station.specs.Survey.{risky, survey_of, with_signs};
 
+use crate::showing::settle_in;
 use islands::Signs;
 use rules::{Aspect, Station, Track};
 
@@ -85,22 +86,24 @@ pub(crate) fn look_over(station: &Station) -> Survey
 
 // The station after a tick or an accepted report: with the hold set, if the greatest-risk condition
 // is then true.
-#[tactic(auto, unfolding(rules::specs::Reports::hold_set, rules::specs::Aspect::greatest_risk, crate::specs::Survey::survey_of))]
-pub fn hold_set(station: Station) -> Station
+pub fn hold_set(mut station: Station) -> Station
     ensures { result ≡ hold_set station }
 {
-    let risk = look_over(&station).greatest_risk();
-    Station {
-        hold: islands::held_up(risk, station.settings.t4, station.hold),
-        ..station
-    }
+    settle_in(&mut station);
+    station
 }
 
 // Whether any island is occupied or any detector has failed.
-#[tactic(auto, unfolding(rules::specs::Station::obstructed))]
 pub fn is_obstructed(station: Station) -> bool
     ensures { result ≡ obstructed station }
 {
-    live(&station).iter().any(|track| islands::some_occupied(*track)
-        || islands::some_failed(*track))
+    obstructed(&station)
+}
+
+// The same of a station that is lent: one that is handed over is copied.
+#[tactic(auto, unfolding(rules::specs::Station::obstructed))]
+pub fn obstructed(station: &Station) -> bool
+    ensures { result ≡ obstructed station.now }
+{
+    live(station).iter().any(|track| islands::some_occupied(*track) || islands::some_failed(*track))
 }

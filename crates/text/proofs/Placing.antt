@@ -8,13 +8,12 @@ use lib.ListN.{get_or, take, length, drop, drop_of_length-le, length-append, len
 use lib.Seq.{drop-append-add, drop-drop, length-take-le, take-append_seam, take-length, take_all}
 use borrow.Author.Tests.{le-leb, lt-leb}
 use Rattle.io.specs.Counts.{IsPrefixLen}
-use Rattle.rules.specs.Printer.{written}
+use Rattle.rules.specs.Printer.{length_where_it_fits, written}
 use Rattle.std.proofs.lemmas.Option.{same_Some}
 use Rattle.std.specs.List.{flat_map}
 use Rattle.std.specs.Option.{is_some}
 use denote.Ref.{Bor}
 use Rattle.std.specs.Prelude.{IfSome, IsSome, Option, None, Some}
-use Rattle.text.specs.Texts.{length_where_it_fits}
 use Rattle.rules.specs.Words.{put}
 use Rattle.std.proofs.lemmas.List.Folds.{length-flat_map-take}
 

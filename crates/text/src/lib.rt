@@ -7,8 +7,7 @@ mod decimal;
 ghost use Rattle.std.specs.Prelude.{◌≡◌, IfSome};
 ghost use Rattle.std.specs.List.{flat_map};
 ghost use Rattle.io.specs.Counts.{IsPrefixLen};
-ghost use Rattle.rules.specs.Printer.{written};
-ghost use Rattle.text.specs.Texts.{length_where_it_fits};
+ghost use Rattle.rules.specs.Printer.{length_where_it_fits, written};
 
 pub use decimal::Decimal;
 

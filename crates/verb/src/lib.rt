@@ -5,7 +5,7 @@
 // This is the one library that touches the world outside, where no contract can say what happens.
 #![tactic(auto)]
 
-ghost use Rattle.std.specs.Prelude.{◌≤◌, length};
+ghost use Rattle.std.specs.Prelude.{◌≤◌, IfSome, length};
 
 use std::env::{Env, FillError};
 use std::fmt::Display;
@@ -102,20 +102,13 @@ pub fn tell(rt: &impl Eprint, text: impl Display + Drop) {
     let _ = rt.eprint(text);
 }
 
-// A verb over what standard input gives, in the room that is lent for it: what is told of it, where it could be
-// read to its end, and the end of the verb.
-pub fn over_input<R: Input + Env + Eprint + Files, F: FnOnce(&[u8]) -> io::Result<Status>>(
-    rt: &R,
-    room: &mut [u8],
-    told: F,
-) -> ExitCode
-    requires { F.IsAlwaysCallable told }
+// What standard input gives, in the room that is lent for it, where it could be read on to its end. Where it could
+// not, that is told as how it went.
+pub fn input<'a>(rt: &(impl Input + Env + Eprint + Files), room: &'a mut [u8]) -> Option<&'a [u8]>
+    ensures in_bounds { IfSome result (λ input. length input.now ≤ length room.old) }
 {
     let input = read(rt, room);
-    if input_failed(rt) {
-        return ExitCode::SUCCESS;
-    }
-    ended(rt, told(input))
+    if input_failed(rt) { None } else { Some(input) }
 }
 
 // The end of a verb, with its status by number where its output was all written, and the program's own status,

@@ -1,9 +1,8 @@
 use mathlib.Core.Path.{◌≡◌}
 use Prim.Native.Nat.{◌-◌}
 use lib.ListN.{drop, length}
-use Rattle.rules_json.specs.Reader.{string_size}
+use Rattle.rules_json.specs.Reader.{past, string_size}
 use Rattle.json_reader.proofs.Quoted.{string_end}
-use Rattle.json_reader.specs.Places.{past}
 use Rattle.json_reader.proofs.strings.string.Given as goal
 
 abbrev pub invariant-loop-place : goal.invariant-loop-place

@@ -2,11 +2,10 @@
 use Rattle.std.proofs.Common.{ap, arith, refl, sym, ◌∙◌}
 use Rattle.std.specs.Prelude.{Some}
 use Rattle.json_reader.proofs.Bracketed.{no_item, over}
-use Rattle.rules_json.specs.Reader.{value_size}
+use Rattle.rules_json.specs.Reader.{past, value_size}
 use Rattle.json_reader.proofs.Nested.{list_value, member, no_list, no_name, no_object, object_value}
 use Rattle.json_reader.proofs.Nested.{scalar_value}
 use Rattle.json_reader.proofs.Walked.{another, ended, first_inside, neither, none_inside, octet_is}
-use Rattle.json_reader.specs.Places.{past}
 use Rattle.json_reader.proofs.values.+list_object_value_value_from.Goals as goal
 
 pub value_from-returns-in_default : goal.value_from-returns-in_default

@@ -1,8 +1,7 @@
 -- What falls from call to call: only the depth.
 use Rattle.std.proofs.Common.{ℕ, ◌+◌, ◌-◌, ◌≡◌, drop, length}
-use Rattle.rules_json.specs.Reader.{at, member_size, value_size}
+use Rattle.rules_json.specs.Reader.{at, member_size, past, value_size}
 use Rattle.json_reader.proofs.Bracketed.{Walking}
-use Rattle.json_reader.specs.Places.{past}
 use Rattle.json_reader.proofs.values.+list_object_value_value_from.Given as goal
 
 -- Each level of depth counts three: a value, the same by its octet, and a list or an object.

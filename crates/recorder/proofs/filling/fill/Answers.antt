@@ -41,8 +41,7 @@ loop-line-preserved-in-Some-report_in c =
       counted = omega (arith, steps.2, inv.counted);
       filled =
           filled_on _ _ _ steps.0 _ c.line_in.ensures _ c.report_in.ensures _
-          c.in-Some-report_in.is _ _ _ _ _ _ _ c.append.ensures.value
-          c.unwrap_or-station.ensures c.append.ensures.register_after inv.filled;
+          c.in-Some-report_in.is _ _ _ _ _ _ c.enter.ensures.station_after c.enter.ensures.register_after inv.filled;
       put_down =
           ap (λ n. lines_from (suc n) (c.loop-line.count + 1) c.put_line.new.rows left) steps.2
           ∙ lines_on _ _ _ steps.0 _ c.line_in.ensures _ c.report_in.ensures _ c.in-Some-report_in.is _ _ _ _ _

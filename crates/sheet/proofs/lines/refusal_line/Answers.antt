@@ -18,4 +18,4 @@ returns c = let given = c.args in
     (naming given.answer given.entry c.if-answer-ne-NOT_REPLAYED.false
     (c.as_slice-2.ensures ∙ c.of-number.ensures ∙ ap decimal c.into.ensures)
     (c.as_slice-3.ensures ∙ c.of-named.ensures))
-    c.in_a_row-2.ensures
+    c.naming.ensures

@@ -13,4 +13,4 @@ returns c = let given = c.args in
     c.zone_column-zones.ensures
     c.output_column-outputs.ensures
     (c.as_slice-2.ensures ∙ c.of-answer.ensures ∙ ap decimal c.into.ensures))
-    c.in_a_row.ensures
+    c.columns.ensures

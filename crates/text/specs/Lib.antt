@@ -1,2 +1,0 @@
--- What is written in a lent buffer
-pub mod Texts
